@@ -1,0 +1,97 @@
+use Rattle.calendar.specs.Conversions.{InCentury}
+use native.Mathlib.Omega.{arith}
+use mathlib.Core.Path.{_≡_, ap, ap₂, sym, _∙_}
+use Prim.Native.Nat.{ℕ, _+_, _-_, _≤_}
+use borrow.Author.Tests.{le-leb, lt-leb}
+use Rattle.calendar.specs.declared.FoundDate.{FoundDate}
+use Rattle.calendar.specs.Gregorian.{yearLength, dateAt, daysBeforeYear, daysBeforeMonth, dayNumber}
+use Rattle.calendar.specs.Conversions.{lastNumber, toDate}
+use Rattle.calendar.proofs.Dates.{dayOfYear, date-valid, date-number, within-year}
+use Rattle.calendar.proofs.RoundTrip.{Tested, date-tested}
+use borrow.Author.Needs.{needs}
+use Rattle.calendar.proofs.Day.to_date.Statement.{statement}
+use Rattle.calendar.proofs.Day.to_date.Tie as tie
+use Rattle.calendar.proofs.Day.to_date.Reads as reads
+use Rattle.calendar.proofs.Day.to_date.Lts as lts
+use Rattle.calendar.proofs.days_before_month.Reads as days-before-month-reads
+use Rattle.calendar.proofs.days_before_year.Reads as days-before-year-reads
+use Rattle.calendar.proofs.month_of.Reads as month-of-reads
+use Rattle.calendar.proofs.year_of.Reads as year-of-reads
+
+-- the parts of a day number: the days before its year, before its month and before its day
+parts : (number : ℕ) → number ≡ daysBeforeYear (dateAt number .year) + dayOfYear (dateAt number)
+unfolding dayNumber
+parts number = omega (arith, date-number number)
+
+in-century : (c : tie.After-year-of) → InCentury (c .year-of .result)
+in-century c =
+    let at : Tested (dateAt (c .before .before .before .args .number)) = date-tested (c .before .before .before .args .number) (c .before .if1 .left) in
+    rw (c .year-of .ensures) (record { from-2000 = at .valid .from-2000; to-2099 = at .to-2099 })
+
+year-over : (c : tie.After-days-before-year) → c .days-before-year .result ≡ daysBeforeYear (dateAt (c .before .before .before .before .args .number) .year)
+year-over c = c .days-before-year .ensures ∙ ap daysBeforeYear (c .before .year-of .ensures)
+
+month-is : (c : tie.After-month-of) → c .month-of .result ≡ dateAt (c .before .before .before .before .before .args .number) .month
+month-is c =
+    let number = c .before .before .before .before .before .args .number in
+    let whole : daysBeforeYear (c .before .before .year-of .result) + (number - c .before .days-before-year .result) ≡ number =
+    omega (arith, year-over (c .before), c .before .days-before-year .ensures, parts number) in
+    c .month-of .ensures ∙ ap (λ n. dateAt n .month) whole
+
+month-over : (c : tie.After-days-before-month) → c .days-before-month .result ≡ daysBeforeMonth (dateAt (c .before .before .before .before .before .before .args .number) .year) (dateAt (c .before .before .before .before .before .before .args .number) .month)
+month-over c = c .days-before-month .ensures ∙ ap₂ daysBeforeMonth (c .before .before .before .year-of .ensures) (month-is (c .before))
+
+-- src/lib.rt:44:13
+returns : tie.Need-returns
+unfolding toDate
+returns c = rw (lt-leb (c .before .before .args .number) lastNumber (c .if1 .taken))
+
+-- src/lib.rt:46:13
+year-of-requires : tie.Need-year-of-requires
+year-of-requires c κs = search needs
+
+-- src/lib.rt:47:36
+days-before-year-requires : tie.Need-days-before-year-requires
+days-before-year-requires c κs = omega (arith, in-century c)
+
+-- src/lib.rt:47:27
+sub-day-of-year : tie.Need-sub-day-of-year
+sub-day-of-year c = omega (arith, year-over c, parts (c .before .before .before .before .args .number))
+
+-- src/lib.rt:48:13
+month-of-requires : tie.Need-month-of-requires
+month-of-requires c κs = (in-century (c .before), rw (c .before .year-of .ensures) (omega (arith, year-over c, parts (c .before .before .before .before .args .number), within-year (dateAt (c .before .before .before .before .args .number)) (date-valid (c .before .before .before .before .args .number)))))
+
+-- src/lib.rt:49:33
+days-before-month-requires : tie.Need-days-before-month-requires
+days-before-month-requires c κs = (in-century (c .before .before), rw (month-is c) (omega (arith, date-valid (c .before .before .before .before .before .args .number) .in-year)))
+
+-- src/lib.rt:49:19
+sub-day : tie.Need-sub-day
+sub-day c = omega (arith, month-over c, year-over (c .before .before), parts (c .before .before .before .before .before .before .args .number))
+
+-- src/lib.rt:49:19
+add-day : tie.Need-add-day
+add-day c = search needs
+
+-- src/lib.rt:40:5
+returns-2 : tie.Need-returns-2
+unfolding toDate
+returns-2 c = let number = c .before .before .before .before .before .before .args .number in
+    let days : number - c .before .before .days-before-year .result - c .days-before-month .result + 1 ≡ dateAt number .day =
+    omega (arith, month-over c, year-over (c .before .before), parts number, date-valid number .from-first) in
+    rw (le-leb number lastNumber (c .before .before .before .before .if1 .left), c .before .before .before .year-of .ensures, month-is (c .before), days)
+
+pub to-date-spec : {M : Type 1} → statement M
+to-date-spec =
+    tie.close
+    (tie.spec
+    returns
+    year-of-requires
+    days-before-year-requires
+    sub-day-of-year
+    month-of-requires
+    days-before-month-requires
+    sub-day
+    add-day
+    returns-2)

@@ -1,0 +1,2 @@
+-- The starred figures hold.
+pub mod Starred

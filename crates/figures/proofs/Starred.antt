@@ -1,0 +1,25 @@
+-- The starred figures hold, each by computing the definitions. Assumes nothing.
+use mathlib.Core.Path.{refl}
+use Rattle.tariff.specs.Fuel.{averagePrice, priceChange, steps, adjustedUnit}
+use Rattle.tariff.specs.Bands.{bandOf}
+use Rattle.tariff.specs.Price.{fullMonth, basicCharge, bandVolume, priceIn, priceOf}
+use Rattle.meter.specs.Dial.{span, advance}
+use Rattle.meter.specs.Sharing.{sharedPool, finalVolumes}
+use Rattle.figures.specs.Starred.{Starred}
+
+pub starred : Starred
+unfolding averagePrice priceChange steps adjustedUnit bandOf fullMonth basicCharge bandVolume priceIn priceOf span advance sharedPool finalVolumes
+starred =
+    record {
+      average = refl;
+      no-change = refl;
+      unit-below = refl;
+      unit-above = refl;
+      small-band = refl;
+      large-band = refl;
+      short-period = refl;
+      long-period = refl;
+      roll-over = refl;
+      one-miss = refl;
+      two-misses = refl;
+    }

@@ -1,0 +1,35 @@
+-- The starred figures of "Worked by hand", as one conjunction about the definitions.
+use Prim.Native.Nat.{ℕ}
+use mathlib.Core.Path.{_≡_}
+use mathlib.Core.Bool.{false}
+use mathlib.Core.List.{List, [], _∷_}
+use Rattle.tariff.specs.declared.Fuel.{Fuel}
+use Rattle.tariff.specs.Fuel.{averagePrice, steps, adjustedUnit}
+use Rattle.tariff.specs.Price.{priceOf}
+use Rattle.meter.specs.declared.Estimate.{Estimate}
+use Rattle.meter.specs.Dial.{advance}
+use Rattle.meter.specs.Sharing.{finalVolumes}
+
+abbrev pub fuel : ℕ → ℕ → Fuel
+fuel lng propane = record { lng = lng; propane = propane }
+
+-- Prices at which k is 0.
+abbrev pub still : Fuel
+still = fuel 83130 75000
+
+-- A missed period of 30 days and 30 m³ at these prices.
+abbrev pub missed : Estimate
+missed = record { absent = false; days = 30; fuel = still; volume = 30; charged = 6650 }
+
+pub record Starred : Type 0 where
+  pub average : averagePrice still ≡ 83090
+  pub no-change : steps still ≡ 0
+  pub unit-below : adjustedUnit 18000 (fuel 83000 75000) ≡ 17991
+  pub unit-above : adjustedUnit 18000 (fuel 85000 75000) ≡ 18150
+  pub small-band : priceOf 30 still 20 ≡ 4850
+  pub large-band : priceOf 30 still 81 ≡ 15820
+  pub short-period : priceOf 24 still 20 ≡ 4600
+  pub long-period : priceOf 36 still 20 ≡ 5040
+  pub roll-over : advance 4 9990 15 ≡ 25
+  pub one-miss : finalVolumes (missed ∷ []) 21 ≡ 10 ∷ 11 ∷ []
+  pub two-misses : finalVolumes (missed ∷ missed ∷ []) 50 ≡ 16 ∷ 17 ∷ 17 ∷ []

@@ -1,0 +1,3 @@
+-- Laws of sums and of padded lists.
+pub mod Sum
+pub mod Pad

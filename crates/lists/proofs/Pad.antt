@@ -1,0 +1,45 @@
+-- Laws of padded lists. Assumes nothing.
+use mathlib.Core.Path.{_≡_, refl, ap, sym, _∙_}
+use mathlib.Core.List.{List, [], _∷_, _++_, map, map-append}
+use Prim.Native.Nat.{ℕ, zero, suc, _+_, _-_, _≤_, _<_}
+use native.Mathlib.Nat.{le-of-lt, sub-zero, zero-sub, suc-sub-suc}
+use native.Mathlib.Omega.{arith}
+use lib.ListN.{length, length-append, length-map, replicate, length-replicate, getD, set, take, drop}
+use lib.Seq.{take-append-seam, take-suc, length-take-le, set-at, append-snoc}
+use Rattle.lists.specs.Pad.{pad}
+
+module _ {A : Type 0} (blank : A) where
+  pub length-pad : (size : ℕ) (xs : List A) → length xs ≤ size → length (pad size blank xs) ≡ size
+  length-pad size xs h = rw (length-append xs (replicate (size - length xs) blank), length-replicate (size - length xs) blank) (omega arith)
+
+  -- A store behind the list, at the first blank, makes the list longer by one.
+  pub pad-store : (size i : ℕ) (xs : List A) (x : A) → length xs ≡ i → i < size → set (pad size blank xs) i x ≡ pad size blank (xs ++ (x ∷ []))
+  pad-store size i xs x e h =
+      let more : size - length xs ≡ suc (size - suc i) = omega arith in
+      let rest : size - length (xs ++ (x ∷ [])) ≡ size - suc i = rw (length-append xs (x ∷ [])) (omega arith) in
+      rw (more, rest, set-at xs blank (replicate (size - suc i) blank) x i e) (sym (append-snoc xs x (replicate (size - suc i) blank)))
+
+  -- what was padded is the front
+  pub take-pad : (size : ℕ) (xs : List A) → take (length xs) (pad size blank xs) ≡ xs
+  take-pad size xs = take-append-seam xs (replicate (size - length xs) blank)
+
+-- A list has the length of what it is mapped to: what is known of an array of structs is known of its machine values.
+pub length-of-mapped : {A B : Type 0} (f : A → B) (xs : List A) (n : ℕ) → length (map f xs) ≡ n → length xs ≡ n
+length-of-mapped f xs n e = sym (length-map xs f) ∙ e
+
+-- one element more
+pub map-take-suc : {A B : Type 0} (f : A → B) (xs : List A) (i : ℕ) (d : A) → i < length xs → map f (take (suc i) xs) ≡ map f (take i xs) ++ (f (getD xs i d) ∷ [])
+map-take-suc f xs i d h = rw (take-suc xs i d h) (map-append f (take i xs) (getD xs i d ∷ []))
+
+pub length-map-take : {A B : Type 0} (f : A → B) (xs : List A) (i : ℕ) → i ≤ length xs → length (map f (take i xs)) ≡ i
+length-map-take f xs i h = length-map (take i xs) f ∙ length-take-le i xs h
+
+-- An array that is filled from the front with f of each element.
+pub pad-map-next : {A B : Type 0} (f : A → B) (blank : B) (size : ℕ) (xs : List A) (i : ℕ) (d : A) → i < length xs → i < size → set (pad size blank (map f (take i xs))) i (f (getD xs i d)) ≡ pad size blank (map f (take (suc i) xs))
+pad-map-next f blank size xs i d h within =
+    pad-store blank size i (map f (take i xs)) (f (getD xs i d)) (length-map-take f xs i (le-of-lt h)) within ∙ ap (pad size blank) (sym (map-take-suc f xs i d h))
+
+pub drop-replicate : {A : Type 0} (x : A) (i n : ℕ) → drop i (replicate n x) ≡ replicate (n - i) x
+drop-replicate x zero n = ap (λ k. replicate k x) (sym (sub-zero n))
+drop-replicate x (suc i) zero = ap (λ k. replicate k x) (sym (zero-sub (suc i)))
+drop-replicate x (suc i) (suc n) = drop-replicate x i n ∙ ap (λ k. replicate k x) (sym (suc-sub-suc n i))

@@ -1,0 +1,3 @@
+-- Sums over lists, and arrays filled from the front.
+pub mod Sum
+pub mod Pad

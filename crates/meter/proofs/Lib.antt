@@ -1,0 +1,4 @@
+-- Laws of dials and of the sharing rule.
+pub mod Dial
+pub mod Sharing
+pub mod Walk

@@ -1,0 +1,4 @@
+-- Price of a period: articles 18 and 19 of the supply terms.
+pub mod Fuel
+pub mod Bands
+pub mod Price
