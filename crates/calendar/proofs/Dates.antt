@@ -2,12 +2,11 @@
 use mathlib.Core.Path.{_≡_, refl, ap, ap₂, _∙_, sym}
 use mathlib.Core.Bool.{Bool, true, false, cond}
 use Prim.Native.Nat.{ℕ, zero, suc, _+_, _-_, _≤_, _<_}
-use native.Mathlib.Nat.{le-refl}
 use native.Mathlib.Numerals.{add-one}
 use native.Mathlib.Omega.{arith}
 use lib.Dec.{ltb}
-use borrow.Author.Tests.{ltb-true, ltb-false}
 use lib.ListN.{take}
+use borrow.Author.Tests.{ltb-true, ltb-false}
 use Rattle.lists.specs.Sum.{sum}
 use Rattle.lists.proofs.Sum.{front-rises}
 use Rattle.calendar.specs.declared.Date.{Date}

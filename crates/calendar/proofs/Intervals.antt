@@ -2,7 +2,7 @@
 use mathlib.Core.Path.{_≡_}
 use mathlib.Core.Logic.{⊎-elim}
 use Prim.Native.Nat.{ℕ, zero, suc, _≤_, _<_}
-use native.Mathlib.Nat.{le-suc-iff, le-trans, le-refl, lt-of-not-le, le-of-lt, le-antisymm}
+use native.Mathlib.Nat.{le-suc-iff, le-trans, le-refl, lt-of-not-le, le-antisymm}
 use native.Mathlib.Omega.{arith}
 
 module _ (f : ℕ → ℕ) (rises : (k : ℕ) → f k ≤ f (suc k)) where

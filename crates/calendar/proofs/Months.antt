@@ -1,19 +1,19 @@
 -- The months of a year, of any year. Assumes nothing.
-use mathlib.Core.Path.{_≡_, refl, ap, _∙_, sym}
+use mathlib.Core.Path.{_≡_, refl}
 use mathlib.Core.Bool.{Bool, true, false, cond, _&&_, and-eq-true-iff}
-use mathlib.Core.List.{List, [], _∷_, _++_}
-use Prim.Native.Nat.{ℕ, zero, suc, pred, _+_, _-_, _≤_, _<_}
-use native.Mathlib.Nat.{not-suc-le-zero, le-of-suc-le-suc, le-of-eq, le-refl}
+use mathlib.Core.List.{List, [], _∷_}
+use Prim.Native.Nat.{ℕ, zero, suc, _+_, _-_, _≤_, _<_}
+use native.Mathlib.Nat.{not-suc-le-zero, le-of-suc-le-suc, le-of-eq}
 use native.Mathlib.Omega.{arith}
 use lib.Dec.{leb}
-use borrow.Author.Tests.{leb-true}
-use Rattle.calendar.proofs.Intervals.{never-falls}
 use lib.ListN.{length, getD, take}
 use lib.Seq.{take-all}
+use borrow.Author.Tests.{leb-true}
 use Rattle.lists.specs.Sum.{sum}
 use Rattle.lists.proofs.Sum.{total-suc, front-rises}
 use Rattle.calendar.specs.Gregorian.{leapYear, yearLength, monthLengths, monthLength, daysBeforeMonth}
 use Rattle.calendar.specs.Conversions.{IsMonth}
+use Rattle.calendar.proofs.Intervals.{never-falls}
 
 -- every element is at least `low`
 abbrev each : ℕ → List ℕ → Bool

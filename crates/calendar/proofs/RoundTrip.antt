@@ -1,7 +1,7 @@
 -- The two conversions undo each other on the whole range. Assumes nothing.
-use mathlib.Core.Path.{_≡_, refl, ap, _∙_, sym}
-use mathlib.Core.Bool.{Bool, true, _&&_, and-eq-true-iff}
-use Prim.Native.Nat.{ℕ, suc, _+_, _-_, _≤_, _<_}
+use mathlib.Core.Path.{_≡_}
+use mathlib.Core.Bool.{true, _&&_, and-eq-true-iff}
+use Prim.Native.Nat.{ℕ, suc, _+_, _-_, _≤_}
 use native.Mathlib.Nat.{lt-of-not-le}
 use native.Mathlib.Omega.{arith}
 use lib.Dec.{leb}
@@ -12,7 +12,7 @@ use Rattle.calendar.specs.declared.FoundDay.{FoundDay}
 use Rattle.calendar.specs.Gregorian.{monthLength, dateAt, daysBeforeYear, dayNumber}
 use Rattle.calendar.specs.Conversions.{lastNumber, within, isDate, toDate, fromDate}
 use Rattle.calendar.proofs.Intervals.{never-falls}
-use Rattle.calendar.proofs.Years.{years-rise, years-closed, days-before-year}
+use Rattle.calendar.proofs.Years.{years-rise, days-before-year}
 use Rattle.calendar.proofs.Dates.{Valid, date-valid, date-number, number-date, own-year}
 
 pub within-true : (low high n : ℕ) → within low high n ≡ true → (low ≤ n) × (n ≤ high)

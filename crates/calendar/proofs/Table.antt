@@ -7,10 +7,10 @@ use Prim.Native.Nat.{ℕ, zero, suc, _+_, _-_, _≤_, _<_}
 use native.Mathlib.Nat.{not-suc-le-zero, le-of-suc-le-suc, eq-or-lt-of-le}
 use native.Mathlib.Omega.{arith}
 use lib.Dec.{leb, ltb, eqb}
-use borrow.Author.Tests.{leb-true, eqb-true, lt-ltb, le-ltb}
 use lib.ListN.{getD, take}
-use Rattle.calendar.specs.Gregorian.{leapYear, monthLengths, daysBeforeMonth}
+use borrow.Author.Tests.{leb-true, eqb-true, lt-ltb, le-ltb}
 use Rattle.lists.specs.Sum.{sum}
+use Rattle.calendar.specs.Gregorian.{leapYear, monthLengths, daysBeforeMonth}
 
 abbrev allBelow : ℕ → (ℕ → Bool) → Bool
 allBelow zero test = true

@@ -1,6 +1,6 @@
 -- What numbers and dates convert to: the days 0 to 36,524, 1 January 2000 to 31 December 2099, and "none" for all else.
-use Prim.Native.Nat.{ℕ, _≤_}
 use mathlib.Core.Bool.{Bool, cond, _&&_}
+use Prim.Native.Nat.{ℕ, _≤_}
 use lib.Dec.{leb}
 use Rattle.calendar.specs.declared.Date.{Date}
 use Rattle.calendar.specs.declared.FoundDate.{FoundDate}

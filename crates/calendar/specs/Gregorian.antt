@@ -1,7 +1,7 @@
 -- The Gregorian calendar by its rule, and the count of days from 1 January 2000.
-use Prim.Native.Nat.{ℕ, zero, suc, _+_, _-_, _%_}
 use mathlib.Core.Bool.{Bool, cond, not, _&&_, _||_}
 use mathlib.Core.List.{List, [], _∷_}
+use Prim.Native.Nat.{ℕ, zero, suc, _+_, _-_, _%_}
 use lib.Dec.{ltb, eqb}
 use lib.ListN.{getD, take}
 use Rattle.lists.specs.Sum.{sum}

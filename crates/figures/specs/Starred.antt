@@ -1,8 +1,8 @@
 -- The starred figures of "Worked by hand", as one conjunction about the definitions.
-use Prim.Native.Nat.{ℕ}
 use mathlib.Core.Path.{_≡_}
 use mathlib.Core.Bool.{false}
-use mathlib.Core.List.{List, [], _∷_}
+use mathlib.Core.List.{[], _∷_}
+use Prim.Native.Nat.{ℕ}
 use Rattle.tariff.specs.declared.Fuel.{Fuel}
 use Rattle.tariff.specs.Fuel.{averagePrice, steps, adjustedUnit}
 use Rattle.tariff.specs.Price.{priceOf}

@@ -1,11 +1,11 @@
 -- Laws of sums over lists. Assumes nothing.
-use mathlib.Core.Path.{_≡_, refl, _∙_}
+use mathlib.Core.Path.{_≡_, refl}
 use mathlib.Core.List.{List, [], _∷_, _++_, map, reverse, reverse-cons}
 use Prim.Native.Nat.{ℕ, zero, suc, _+_, _*_, _≤_, _<_}
 use native.Mathlib.Nat.{le-refl, suc-mul, not-suc-le-zero, le-of-suc-le-suc}
 use native.Mathlib.Omega.{arith}
-use lib.ListN.{length, getD, take, drop}
-use lib.Seq.{take-suc, drop-cons}
+use lib.ListN.{length, getD, take}
+use lib.Seq.{take-suc}
 use Rattle.lists.specs.Sum.{total}
 
 module _ {A : Type 0} (f : A → ℕ) where

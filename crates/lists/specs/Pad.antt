@@ -1,6 +1,6 @@
 -- A list as an array holds it: from the front, blanks behind it.
-use Prim.Native.Nat.{ℕ, _-_}
 use mathlib.Core.List.{List, _++_}
+use Prim.Native.Nat.{ℕ, _-_}
 use lib.ListN.{length, replicate}
 
 abbrev pub pad : {A : Type 0} → ℕ → A → List A → List A

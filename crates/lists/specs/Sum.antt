@@ -1,6 +1,6 @@
 -- Sums over lists.
-use Prim.Native.Nat.{ℕ, _+_}
 use mathlib.Core.List.{List, [], _∷_}
+use Prim.Native.Nat.{ℕ, _+_}
 
 -- f of each element, added up
 abbrev pub total : {A : Type 0} → (A → ℕ) → List A → ℕ

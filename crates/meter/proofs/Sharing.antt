@@ -1,15 +1,15 @@
 -- Laws of the sharing rule, over any number of periods. Assumes nothing.
-use mathlib.Core.Path.{_≡_, refl, ap, _∙_, sym}
+use mathlib.Core.Path.{_≡_, refl, ap}
 use mathlib.Core.Logic.{⊎-elim}
-use mathlib.Core.Bool.{Bool, true, false, cond, not}
-use mathlib.Core.List.{List, [], _∷_, _++_, map, reverse, reverse-cons, reverse-append, append-assoc}
-use Prim.Native.Nat.{ℕ, zero, suc, _+_, _-_, _*_, _/_, _≤_, _<_}
+use mathlib.Core.Bool.{Bool, true, false, cond}
+use mathlib.Core.List.{List, [], _∷_, _++_, map, reverse}
+use Prim.Native.Nat.{ℕ, suc, _+_, _-_, _*_, _≤_, _<_}
 use native.Mathlib.Nat.{le-refl, div-lt-iff-lt-mul, suc-mul, le-mul-of-pos-right, eq-zero-or-pos}
 use native.Mathlib.Omega.{arith}
 use lib.Dec.{leb}
-use borrow.Author.Tests.{leb-true}
 use lib.ListN.{length, getD, length-append, length-reverse, length-map}
-use Rattle.lists.specs.Sum.{total, sum}
+use borrow.Author.Tests.{leb-true}
+use Rattle.lists.specs.Sum.{sum}
 use Rattle.lists.proofs.Sum.{total-append, total-reverse, total-map, total-at-most, element-at-most}
 use Rattle.meter.specs.declared.Estimate.{Estimate}
 use Rattle.meter.specs.Sharing.{ceiling, sharers, shares, sharing, estimated, sharedPool, finalVolumes}

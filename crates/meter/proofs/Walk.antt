@@ -1,13 +1,12 @@
 -- The sharing rule as a walk back from the latest period, over any number of periods. Assumes nothing.
-use mathlib.Core.Path.{_≡_, refl, ap, _∙_, sym}
+use mathlib.Core.Path.{_≡_, ap, _∙_, sym}
 use mathlib.Core.Bool.{Bool, true, false, cond, not}
-use mathlib.Core.List.{List, [], _∷_, _++_, map, reverse, reverse-cons, reverse-append, append-assoc}
-use Prim.Native.Nat.{ℕ, zero, suc, _+_, _-_, _≤_, _<_}
+use mathlib.Core.List.{List, [], _∷_, _++_, reverse, reverse-cons, reverse-append}
+use Prim.Native.Nat.{ℕ, suc, _+_, _-_, _≤_, _<_}
 use native.Mathlib.Nat.{le-refl}
 use native.Mathlib.Omega.{arith}
 use lib.ListN.{length, getD, set, take, drop, replicate, length-set, length-replicate, length-reverse}
 use lib.Seq.{take-suc, drop-cons, getD-set-same, drop-set-lt, append-snoc, take-length}
-use Rattle.lists.specs.Sum.{total}
 use Rattle.lists.specs.Pad.{pad}
 use Rattle.lists.proofs.Sum.{total-suc, total-reverse}
 use Rattle.lists.proofs.Pad.{drop-replicate}

@@ -1,7 +1,6 @@
 -- Dials: readings are whole m³ (13), and a dial starts again from 0 past its last digit.
-use Prim.Native.Nat.{ℕ, _+_, _-_, _/_, _^_, _≤_, _<_}
 use mathlib.Core.Bool.{Bool, cond}
-use mathlib.Core.Path.{_≡_}
+use Prim.Native.Nat.{ℕ, _+_, _-_, _/_, _^_, _≤_, _<_}
 use lib.Dec.{leb}
 
 -- A dial of 4 digits has the span 10,000, one of 5 digits 100,000.

@@ -1,7 +1,7 @@
 -- The volumes that a real closing makes final: articles 14(1), 14(4) and 14(5).
-use Prim.Native.Nat.{ℕ, suc, _+_, _-_, _/_, _≤_}
 use mathlib.Core.Bool.{Bool, true, false, cond, not}
 use mathlib.Core.List.{List, [], _∷_, _++_, map, reverse}
+use Prim.Native.Nat.{ℕ, _+_, _-_, _/_, _≤_}
 use lib.Dec.{leb}
 use lib.ListN.{length, take}
 use Rattle.lists.specs.Pad.{pad}

@@ -2,7 +2,7 @@
 ghost use mathlib.Core.Path.{_≡_};
 ghost use mathlib.Core.Bool.{false};
 ghost use mathlib.Core.List.{[], _∷_, _++_, map};
-ghost use Prim.Native.Nat.{suc, _+_, _≤_, _<_};
+ghost use Prim.Native.Nat.{_+_, _≤_, _<_};
 ghost use Rattle.meter.specs.Dial.{span, advance, withinHalf, Digits, OnDial};
 ghost use Rattle.meter.specs.Sharing.{estimated, sharers, sharing, shareTaken, sharedPool, finalVolumes, standing, volumesOf, AtMostSix};
 use tariff::Fuel;

@@ -1,47 +1,35 @@
 use mathlib.Core.Path.{sym, _∙_}
 use Prim.Native.Nat.{_-_}
-use Rattle.calendar.proofs.Table.{early-month, leap-month, common-month, table-most}
 use native.Mathlib.Omega.{arith}
 use borrow.Author.Needs.{needs}
+use Rattle.calendar.proofs.Table.{early-month, leap-month, common-month, table-most}
 use Rattle.calendar.proofs.days_before_month.Statement.{statement}
 use Rattle.calendar.proofs.days_before_month.Tie as tie
-use Rattle.calendar.proofs.days_before_month.Reads as reads
-use Rattle.calendar.proofs.days_before_month.Lts as lts
-use Rattle.calendar.proofs.is_leap.Reads as is-leap-reads
 
--- src/lib.rt:87:31
 sub-common : tie.Need-sub-common
 sub-common c = search needs
 
--- src/lib.rt:87:30
 cast-common : tie.Need-cast-common
 cast-common c = search needs
 
--- src/lib.rt:87:18
 mul-common : tie.Need-mul-common
 mul-common c = search needs
 
--- src/lib.rt:87:18
 array-read-common : tie.Need-array-read-common
 array-read-common c = search needs
 
--- src/lib.rt:89:9
 returns : tie.Need-returns
 returns c = early-month (c .before .args .year) (c .before .args .month) (c .if1 .taken)
 
--- src/lib.rt:91:8
 is-leap-requires : tie.Need-is-leap-requires
 is-leap-requires c κs = search needs
 
--- src/lib.rt:91:24
 add-result : tie.Need-add-result
 add-result c = omega (arith, table-most (c .before .before .before .args .month - 1) (omega arith))
 
--- src/lib.rt:82:1
 returns-2 : tie.Need-returns-2
 returns-2 c = leap-month (c .before .before .before .args .year) (c .before .before .before .args .month) (c .before .before .if1 .left) (c .before .before .before .pre .1 .1) (sym (c .before .is-leap .ensures) ∙ c .if2 .taken)
 
--- src/lib.rt:82:1
 returns-3 : tie.Need-returns-3
 returns-3 c = common-month (c .before .before .before .args .year) (c .before .before .before .args .month) (c .before .before .if1 .left) (c .before .before .before .pre .1 .1) (sym (c .before .is-leap .ensures) ∙ c .if2 .left)
 

@@ -1,28 +1,21 @@
 use mathlib.Core.Path.{sym}
-use Rattle.calendar.proofs.Years.{days-before-year}
 use borrow.Author.Needs.{needs}
+use Rattle.calendar.proofs.Years.{days-before-year}
 use Rattle.calendar.proofs.days_before_year.Statement.{statement}
 use Rattle.calendar.proofs.days_before_year.Tie as tie
-use Rattle.calendar.proofs.days_before_year.Reads as reads
-use Rattle.calendar.proofs.days_before_year.Lts as lts
 
--- src/lib.rt:79:17
 sub-years : tie.Need-sub-years
 sub-years c = search needs
 
--- src/lib.rt:80:5
 mul-result : tie.Need-mul-result
 mul-result c = search needs
 
--- src/lib.rt:80:20
 add-result : tie.Need-add-result
 add-result c = search needs
 
--- src/lib.rt:80:5
 add-result-2 : tie.Need-add-result-2
 add-result-2 c = search needs
 
--- src/lib.rt:74:1
 returns : tie.Need-returns
 returns c = sym (days-before-year (c .args .year) (c .pre .0) (c .pre .1))
 

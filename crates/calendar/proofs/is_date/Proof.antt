@@ -1,50 +1,36 @@
 use mathlib.Core.Path.{_≡_, sym, _∙_}
 use mathlib.Core.Bool.{true, false}
+use native.Mathlib.Omega.{arith}
 use borrow.Author.Tests.{not-true, not-false}
-use Rattle.calendar.specs.Conversions.{within, isDate, InCentury, IsMonth}
-use Rattle.calendar.proofs.RoundTrip.{within-true}
-use mathlib.Core.Path.{sym, _∙_}
-use native.Mathlib.Omega.{arith}
-use Rattle.calendar.specs.Conversions.{isDate}
-use native.Mathlib.Omega.{arith}
 use borrow.Author.Needs.{needs}
+use Rattle.calendar.specs.Conversions.{within, isDate}
+use Rattle.calendar.proofs.RoundTrip.{within-true}
 use Rattle.calendar.proofs.is_date.Statement.{statement}
 use Rattle.calendar.proofs.is_date.Tie as tie
-use Rattle.calendar.proofs.is_date.Reads as reads
-use Rattle.calendar.proofs.is_date.Lts as lts
-use Rattle.calendar.proofs.month_length.Reads as month-length-reads
-use Rattle.calendar.proofs.within.Reads as within-reads
 
--- src/lib.rt:106:9
 within-requires : tie.Need-within-requires
 within-requires c κs = search needs
 
--- src/lib.rt:107:9
 returns : tie.Need-returns
 unfolding isDate
 returns c = let year : within 2000 2099 (c .before .before .args .date .year) ≡ false = sym (c .before .within .ensures) ∙ not-true _ (c .if1 .taken) in
     rw year
 
--- src/lib.rt:109:9
 within-requires-2 : tie.Need-within-requires-2
 within-requires-2 c κs = search needs
 
--- src/lib.rt:110:9
 returns-2 : tie.Need-returns-2
 unfolding isDate
 returns-2 c = let year : within 2000 2099 (c .before .before .before .before .args .date .year) ≡ true = sym (c .before .before .before .within .ensures) ∙ not-false _ (c .before .before .if1 .left) in
     let month : within 1 12 (c .before .before .before .before .args .date .month) ≡ false = sym (c .before .within2 .ensures) ∙ not-true _ (c .if2 .taken) in
     rw (year, month)
 
--- src/lib.rt:112:15
 month-length-requires : tie.Need-month-length-requires
 month-length-requires c κs = (omega (arith, within-true 2000 2099 (c .before .before .before .before .args .date .year) (sym (c .before .before .before .within .ensures) ∙ not-false _ (c .before .before .if1 .left))), omega (arith, within-true 1 12 (c .before .before .before .before .args .date .month) (sym (c .before .within2 .ensures) ∙ not-false _ (c .if2 .left))))
 
--- src/lib.rt:112:5
 within-requires-3 : tie.Need-within-requires-3
 within-requires-3 c κs = search needs
 
--- src/lib.rt:103:1
 returns-3 : tie.Need-returns-3
 unfolding isDate
 returns-3 c = let year : within 2000 2099 (c .before .before .before .before .before .before .args .date .year) ≡ true = sym (c .before .before .before .before .before .within .ensures) ∙ not-false _ (c .before .before .before .before .if1 .left) in

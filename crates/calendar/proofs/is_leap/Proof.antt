@@ -2,10 +2,7 @@ use mathlib.Core.Path.{sym}
 use Rattle.calendar.proofs.Years.{leap-in-century}
 use Rattle.calendar.proofs.is_leap.Statement.{statement}
 use Rattle.calendar.proofs.is_leap.Tie as tie
-use Rattle.calendar.proofs.is_leap.Reads as reads
-use Rattle.calendar.proofs.is_leap.Lts as lts
 
--- src/lib.rt:66:1
 returns : tie.Need-returns
 returns c = sym (leap-in-century (c .args .year) (c .pre))
 

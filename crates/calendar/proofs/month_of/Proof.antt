@@ -1,20 +1,13 @@
+use mathlib.Core.Path.{_≡_, sym}
+use Prim.Native.Nat.{ℕ, _<_, _+_, _≤_, _-_}
 use native.Mathlib.Numerals.{add-one}
-use native.Mathlib.Nat.{le-antisymm}
-use Prim.Native.Nat.{ℕ, _<_, _+_}
-use mathlib.Core.Path.{_≡_}
-use Rattle.calendar.specs.Gregorian.{yearLength, monthLength, dateAt, daysBeforeYear}
-use Rattle.calendar.proofs.Months.{next-month, year-begins, year-end}
-use Rattle.calendar.proofs.Dates.{InMonth, month-at}
 use native.Mathlib.Omega.{arith}
-use mathlib.Core.Path.{sym}
-use Prim.Native.Nat.{_≤_, _-_}
-use Rattle.calendar.specs.Gregorian.{daysBeforeMonth}
+use Rattle.calendar.specs.Gregorian.{yearLength, monthLength, dateAt, daysBeforeYear, daysBeforeMonth}
 use Rattle.calendar.specs.Conversions.{IsMonth}
+use Rattle.calendar.proofs.Months.{next-month, year-begins, year-end}
+use Rattle.calendar.proofs.Dates.{month-at}
 use Rattle.calendar.proofs.month_of.Statement.{statement}
 use Rattle.calendar.proofs.month_of.Tie as tie
-use Rattle.calendar.proofs.month_of.Reads as reads
-use Rattle.calendar.proofs.month_of.Lts as lts
-use Rattle.calendar.proofs.days_before_month.Reads as days-before-month-reads
 
 lies : (year month day-of-year : ℕ) → 2000 ≤ year → day-of-year < yearLength year → IsMonth month → daysBeforeMonth year month ≤ day-of-year → day-of-year < daysBeforeMonth year month + monthLength year month → month ≡ dateAt (daysBeforeYear year + day-of-year) .month
 lies year month day-of-year h within w low high = sym (month-at year month day-of-year h within (record { is-month = w; begun = low; not-over = high }))
@@ -25,37 +18,29 @@ Inv-loop year day-of-year month₀ month = IsMonth month × (daysBeforeMonth yea
 abbrev μ-loop : tie.MeasureT-loop
 μ-loop year day-of-year month₀ month = 12 - month
 
--- src/lib.rt:144:5
 loop-holds : tie.Need-loop-holds Inv-loop μ-loop
 loop-holds c = (omega arith, omega (arith, year-begins (c .args .year)))
 
--- src/lib.rt:144:49
 add-days-before-month : tie.Need-add-days-before-month Inv-loop μ-loop
 add-days-before-month c = omega arith
 
--- src/lib.rt:144:25
 days-before-month-requires : tie.Need-days-before-month-requires Inv-loop μ-loop
 days-before-month-requires c κs = (c .before .before .pre .0, omega arith)
 
--- src/lib.rt:145:9
 add-month : tie.Need-add-month Inv-loop μ-loop
 add-month c = omega arith
 
--- src/lib.rt:144:5
 loop-less : tie.Need-loop-less Inv-loop μ-loop
 loop-less c = omega arith
 
--- src/lib.rt:144:5
 loop-again : tie.Need-loop-again Inv-loop μ-loop
 loop-again c = (omega arith, omega (arith, c .before .days-before-month .ensures))
 
--- src/lib.rt:138:1
 returns : tie.Need-returns Inv-loop μ-loop
 returns c = let month = c .before .before .before .loop .month in
     lies (c .before .before .before .before .args .year) month (c .before .before .before .before .args .day-of-year) (c .before .before .before .before .pre .0 .from-2000) (c .before .before .before .before .pre .1) (c .before .before .before .loop .inv .0) (c .before .before .before .loop .inv .1)
     (omega (arith, rw (add-one month) at (c .before .days-before-month .ensures), next-month (c .before .before .before .before .args .year) month (c .before .before .before .loop .inv .0)))
 
--- src/lib.rt:138:1
 returns-2 : tie.Need-returns-2 Inv-loop μ-loop
 returns-2 c = let month = c .before .loop .month in
     let december : month ≡ 12 = omega arith in

@@ -1,14 +1,10 @@
 use borrow.Author.Tests.{le-leb, lt-leb}
 use Rattle.calendar.proofs.within.Statement.{statement}
 use Rattle.calendar.proofs.within.Tie as tie
-use Rattle.calendar.proofs.within.Reads as reads
-use Rattle.calendar.proofs.within.Lts as lts
 
--- src/lib.rt:115:1
 returns : tie.Need-returns
 returns c = rw (le-leb (c .before .args .low) (c .before .args .n) (c .if1 .taken))
 
--- src/lib.rt:115:1
 returns-2 : tie.Need-returns-2
 returns-2 c = rw (lt-leb (c .before .args .low) (c .before .args .n) (c .if1 .left))
 

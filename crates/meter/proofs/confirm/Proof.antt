@@ -1,21 +1,15 @@
-use Rattle.lists.proofs.Pad.{pad-map-next}
-use mathlib.Core.List.{[], _∷_, _++_}
-use lib.ListN.{set, length-append}
-use mathlib.Core.Path.{_∙_, ap, sym}
-use native.Mathlib.Omega.{arith}
-use borrow.Author.Needs.{needs}
+use mathlib.Core.List.{[], _∷_, map}
 use mathlib.Core.Path.{_≡_, refl}
-use mathlib.Core.List.{map}
-use Prim.Native.Nat.{ℕ, _≤_, _<_, _+_, _-_}
-use lib.ListN.{length, getD, take}
+use Prim.Native.Nat.{_≤_, _-_}
+use native.Mathlib.Omega.{arith}
 use native.Mathlib.Numerals.{add-one}
+use lib.ListN.{length-append, length, take}
+use borrow.Author.Needs.{needs}
+use Rattle.lists.proofs.Pad.{pad-map-next, length-of-mapped, pad-store, length-map-take}
 use Rattle.lists.specs.Pad.{pad}
-use Rattle.lists.proofs.Pad.{length-of-mapped, pad-store, map-take-suc, length-map-take}
-use Rattle.meter.specs.Sharing.{blank, volumesOf}
+use Rattle.meter.specs.Sharing.{blank}
 use Rattle.meter.proofs.confirm.Statement.{statement}
 use Rattle.meter.proofs.confirm.Tie as tie
-use Rattle.meter.proofs.confirm.Reads as reads
-use Rattle.meter.proofs.confirm.Lts as lts
 
 abbrev Inv-loop : tie.InvT-loop
 Inv-loop rest estimates count volumes₀ i₀ volumes i = (i ≤ count) × (volumes ≡ pad 7 0 (map (λ estimate. estimate .volume) (take i (estimates .periods)))) × (count ≤ 6)
@@ -23,52 +17,40 @@ Inv-loop rest estimates count volumes₀ i₀ volumes i = (i ≤ count) × (volu
 abbrev μ-loop : tie.MeasureT-loop
 μ-loop rest estimates count volumes₀ i₀ volumes i = count - i
 
--- src/lib.rt:95:5
 loop-holds : tie.Need-loop-holds Inv-loop μ-loop
 loop-holds c = (omega arith, refl, c .pre)
 
--- src/lib.rt:96:24
 mul-estimate : tie.Need-mul-estimate Inv-loop μ-loop
 mul-estimate c = search needs
 
--- src/lib.rt:96:24
 element-copy-out-estimate : tie.Need-element-copy-out-estimate Inv-loop μ-loop
 element-copy-out-estimate c = search needs
 
--- src/lib.rt:97:9
 mul-volumes : tie.Need-mul-volumes Inv-loop μ-loop
 mul-volumes c = search needs
 
--- src/lib.rt:97:9
 array-write-volumes : tie.Need-array-write-volumes Inv-loop μ-loop
 array-write-volumes c = search needs
 
--- src/lib.rt:98:9
 add-i : tie.Need-add-i Inv-loop μ-loop
 add-i c = omega arith
 
--- src/lib.rt:95:5
 loop-less : tie.Need-loop-less Inv-loop μ-loop
 loop-less c = omega arith
 
--- src/lib.rt:95:5
 loop-again : tie.Need-loop-again Inv-loop μ-loop
 loop-again c = let six : length (c .before .before .before .args .t1 .periods) ≡ 6 = search (length-of-mapped, needs) in
     (omega arith, rw (add-one (c .before .before .loop .i), c .before .before .loop .inv .1) (pad-map-next (λ estimate. estimate .volume) 0 7 (c .before .before .before .args .t1 .periods) (c .before .before .loop .i) blank (omega arith) (omega arith)), c .before .before .loop .inv .2)
 
--- src/lib.rt:100:5
 mul-volumes-2 : tie.Need-mul-volumes-2 Inv-loop μ-loop
 mul-volumes-2 c = search needs
 
--- src/lib.rt:100:5
 array-write-volumes-2 : tie.Need-array-write-volumes-2 Inv-loop μ-loop
 array-write-volumes-2 c = search needs
 
--- src/lib.rt:101:22
 add-t15 : tie.Need-add-t15 Inv-loop μ-loop
 add-t15 c = omega arith
 
--- src/lib.rt:88:1
 returns : tie.Need-returns Inv-loop μ-loop
 returns c = let periods = c .before .before .args .t1 .periods in
     let count = c .before .before .args .t1 .count in

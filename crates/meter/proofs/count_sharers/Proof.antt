@@ -1,21 +1,17 @@
-use mathlib.Core.Path.{_∙_, ap, sym}
-use mathlib.Core.List.{[], _∷_}
+use mathlib.Core.Path.{_≡_, refl}
+use mathlib.Core.List.{[], _∷_, map}
 use mathlib.Core.Bool.{cond}
 use mathlib.Core.Logic.{⊎-elim}
+use Prim.Native.Nat.{_≤_, _+_, _-_}
+use native.Mathlib.Omega.{arith}
+use native.Mathlib.Numerals.{add-one}
+use lib.ListN.{length, getD, take}
+use borrow.Author.Needs.{needs}
 use Rattle.lists.proofs.Pad.{length-of-mapped, map-take-suc}
 use Rattle.lists.proofs.Sum.{total-append}
-use native.Mathlib.Omega.{arith}
-use borrow.Author.Needs.{needs}
-use mathlib.Core.Path.{_≡_, refl}
-use mathlib.Core.List.{map}
-use Prim.Native.Nat.{ℕ, _≤_, _<_, _+_, _-_}
-use lib.ListN.{length, getD, take}
-use native.Mathlib.Numerals.{add-one}
 use Rattle.meter.specs.Sharing.{blank, sharers, sharing}
 use Rattle.meter.proofs.count_sharers.Statement.{statement}
 use Rattle.meter.proofs.count_sharers.Tie as tie
-use Rattle.meter.proofs.count_sharers.Reads as reads
-use Rattle.meter.proofs.count_sharers.Lts as lts
 
 abbrev Inv-loop : tie.InvT-loop
 Inv-loop estimates count n₀ i₀ n i = (i ≤ count) × (n ≡ sharers (map sharing (take i (estimates .periods)))) × (n ≤ i) × (count ≤ 6)
@@ -28,35 +24,27 @@ one-more c =
     let six : length (c .before .before .before .before .before .args .t1 .periods) ≡ 6 = search (length-of-mapped, needs) in
     rw (add-one (c .before .before .before .before .loop .i), map-take-suc sharing (c .before .before .before .before .before .args .t1 .periods) (c .before .before .before .before .loop .i) blank (omega arith), total-append (λ shares. cond shares 1 0) (map sharing (take (c .before .before .before .before .loop .i) (c .before .before .before .before .before .args .t1 .periods))) (sharing (getD (c .before .before .before .before .before .args .t1 .periods) (c .before .before .before .before .loop .i) blank) ∷ [])) (omega (arith, c .before .before .before .before .loop .inv .1))
 
--- src/lib.rt:112:5
 loop-holds : tie.Need-loop-holds Inv-loop μ-loop
 loop-holds c = (omega arith, refl, omega arith, c .pre)
 
--- src/lib.rt:113:24
 mul-estimate : tie.Need-mul-estimate Inv-loop μ-loop
 mul-estimate c = search needs
 
--- src/lib.rt:113:24
 element-copy-out-estimate : tie.Need-element-copy-out-estimate Inv-loop μ-loop
 element-copy-out-estimate c = search needs
 
--- src/lib.rt:115:13
 add-n : tie.Need-add-n Inv-loop μ-loop
 add-n c = omega arith
 
--- src/lib.rt:117:9
 add-i : tie.Need-add-i Inv-loop μ-loop
 add-i c = omega arith
 
--- src/lib.rt:112:5
 loop-less : tie.Need-loop-less Inv-loop μ-loop
 loop-less c = omega arith
 
--- src/lib.rt:112:5
 loop-again : tie.Need-loop-again Inv-loop μ-loop
 loop-again c = ⊎-elim (λ w. omega (arith, rw (w .0 .taken) at (one-more c))) (λ w. omega (arith, rw (w .0 .left) at (one-more c))) (c .if1 .came)
 
--- src/lib.rt:105:1
 returns : tie.Need-returns Inv-loop μ-loop
 returns c = let done : c .before .loop .i ≡ c .before .before .args .t1 .count = omega arith in
     rw (← done) (c .before .loop .inv .1)

@@ -1,32 +1,24 @@
 use native.Mathlib.Omega.{arith}
 use borrow.Author.Tests.{le-leb, lt-leb}
+use borrow.Author.Needs.{needs}
 use Rattle.meter.specs.Dial.{advance}
 use Rattle.meter.proofs.Dial.{span-most}
-use borrow.Author.Needs.{needs}
 use Rattle.meter.proofs.dial_advance.Statement.{statement}
 use Rattle.meter.proofs.dial_advance.Tie as tie
-use Rattle.meter.proofs.dial_advance.Reads as reads
-use Rattle.meter.proofs.dial_advance.Lts as lts
-use Rattle.meter.proofs.dial_span.Reads as dial-span-reads
 
--- src/lib.rt:47:15
 dial-span-requires : tie.Need-dial-span-requires
 dial-span-requires c κs = search needs
 
--- src/lib.rt:47:9
 add-result : tie.Need-add-result
 add-result c = omega (arith, c .dial-span .ensures, span-most (c .before .before .args .digits) (c .before .before .pre .digits-within), c .before .before .pre .new-within)
 
--- src/lib.rt:47:9
 sub-result : tie.Need-sub-result
 sub-result c = search needs
 
--- src/lib.rt:40:1
 returns : tie.Need-returns
 unfolding advance
 returns c = rw (le-leb (c .before .args .old) (c .before .args .new) (c .if1 .taken))
 
--- src/lib.rt:40:1
 returns-2 : tie.Need-returns-2
 unfolding advance
 returns-2 c = rw (lt-leb (c .before .before .args .old) (c .before .before .args .new) (c .before .if1 .left), c .dial-span .ensures)

@@ -1,20 +1,14 @@
-use mathlib.Core.Path.{_∙_, sym}
-use Prim.Native.Nat.{ℕ, _+_, _<_, _^_}
-use lib.ListN.{length, getD}
+use mathlib.Core.Path.{_≡_, refl}
+use Prim.Native.Nat.{_+_, _<_, _^_, _≤_, _-_, _*_}
 use native.Mathlib.Numerals.{add-one}
+use native.Mathlib.Omega.{arith}
+use lib.ListN.{length, getD, take}
+use borrow.Author.Needs.{needs}
 use Rattle.lists.proofs.Sum.{total-suc}
 use Rattle.lists.proofs.Pad.{length-of-mapped}
-use Rattle.meter.specs.Sharing.{blank}
-use native.Mathlib.Omega.{arith}
-use borrow.Author.Needs.{needs}
-use mathlib.Core.Path.{_≡_, refl}
-use Prim.Native.Nat.{_≤_, _-_, _*_}
-use lib.ListN.{take}
-use Rattle.meter.specs.Sharing.{estimated}
+use Rattle.meter.specs.Sharing.{blank, estimated}
 use Rattle.meter.proofs.estimated_volume.Statement.{statement}
 use Rattle.meter.proofs.estimated_volume.Tie as tie
-use Rattle.meter.proofs.estimated_volume.Reads as reads
-use Rattle.meter.proofs.estimated_volume.Lts as lts
 
 abbrev Inv-loop : tie.InvT-loop
 Inv-loop estimates count sum₀ i₀ sum i = (i ≤ count) × (sum ≡ estimated (take i (estimates .periods))) × (sum ≤ i * 4294967295) × (count ≤ 6)
@@ -30,39 +24,30 @@ one-more c =
     let within : c .before .before .before .loop .i < length (c .before .before .before .before .args .t1 .periods) = let six : length (c .before .before .before .before .args .t1 .periods) ≡ 6 = search (length-of-mapped, needs) in omega arith in
     rw (add-one (c .before .before .before .loop .i), total-suc (λ estimate. estimate .volume) (c .before .before .before .before .args .t1 .periods) (c .before .before .before .loop .i) blank within, c .before .before .before .loop .inv .1)
 
--- src/lib.rt:79:5
 loop-holds : tie.Need-loop-holds Inv-loop μ-loop
 loop-holds c = (omega arith, refl, omega arith, c .pre)
 
--- src/lib.rt:80:24
 mul-estimate : tie.Need-mul-estimate Inv-loop μ-loop
 mul-estimate c = search needs
 
--- src/lib.rt:80:24
 element-copy-out-estimate : tie.Need-element-copy-out-estimate Inv-loop μ-loop
 element-copy-out-estimate c = search needs
 
--- src/lib.rt:81:16
 cast-sum : tie.Need-cast-sum Inv-loop μ-loop
 cast-sum c = search needs
 
--- src/lib.rt:81:9
 add-sum : tie.Need-add-sum Inv-loop μ-loop
 add-sum c = omega (arith, volume-fits c)
 
--- src/lib.rt:82:9
 add-i : tie.Need-add-i Inv-loop μ-loop
 add-i c = omega arith
 
--- src/lib.rt:79:5
 loop-less : tie.Need-loop-less Inv-loop μ-loop
 loop-less c = omega arith
 
--- src/lib.rt:79:5
 loop-again : tie.Need-loop-again Inv-loop μ-loop
 loop-again c = (omega arith, one-more c, omega (arith, volume-fits c), c .before .before .before .loop .inv .3)
 
--- src/lib.rt:72:1
 returns : tie.Need-returns Inv-loop μ-loop
 returns c = let done : c .before .loop .i ≡ c .before .before .args .t1 .count = omega arith in
     rw (← done) (c .before .loop .inv .1)

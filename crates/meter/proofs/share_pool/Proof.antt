@@ -1,29 +1,21 @@
-use Rattle.meter.specs.Sharing.{volumesOf}
-use Rattle.meter.proofs.Sharing.{shares-length}
-use lib.ListN.{length-reverse}
-use Rattle.lists.proofs.Pad.{length-of-mapped, length-map-take}
-use Rattle.meter.proofs.Sharing.{sharers-at-most}
-use Rattle.meter.specs.Sharing.{shareTaken}
-use native.Mathlib.Omega.{arith}
-use borrow.Author.Needs.{needs}
-use mathlib.Core.Path.{_≡_, refl, ap, sym, _∙_}
+use mathlib.Core.Path.{_≡_, ap, sym, _∙_}
 use mathlib.Core.Bool.{Bool, true, false, cond, not}
-use mathlib.Core.List.{List, [], _∷_, _++_, map, reverse}
+use mathlib.Core.List.{List, _∷_, map, reverse}
 use Prim.Native.Nat.{ℕ, suc, _≤_, _<_, _+_, _-_}
-use lib.ListN.{length, getD, set, take, drop, length-set, length-take, List·getD-map}
+use native.Mathlib.Omega.{arith}
+use lib.ListN.{length-reverse, length, getD, take, length-set, length-take, List·getD-map}
 use lib.Seq.{getD-take}
+use borrow.Author.Needs.{needs}
+use Rattle.lists.proofs.Pad.{length-of-mapped, length-map-take}
 use Rattle.lists.proofs.Sum.{total-suc}
 use Rattle.lists.specs.Pad.{pad}
+use Rattle.meter.specs.Sharing.{shareTaken, blank, sharers, shares, sharing, sharedPool, standing}
 use Rattle.meter.specs.declared.Estimates.{Estimates}
 use Rattle.meter.specs.declared.Share.{Share}
-use Rattle.meter.specs.Sharing.{blank, sharers, shares, sharing, sharedPool, standing}
+use Rattle.meter.proofs.Sharing.{shares-length, sharers-at-most}
 use Rattle.meter.proofs.Walk.{Walked, left-falls, walked-first, walked-next, walked-last}
 use Rattle.meter.proofs.share_pool.Statement.{statement}
 use Rattle.meter.proofs.share_pool.Tie as tie
-use Rattle.meter.proofs.share_pool.Reads as reads
-use Rattle.meter.proofs.share_pool.Lts as lts
-use Rattle.meter.proofs.count_sharers.Reads as count-sharers-reads
-use Rattle.meter.proofs.take_share.Reads as take-share-reads
 
 -- the marks of the standing estimates, oldest first
 abbrev marks : Estimates → List Bool
@@ -81,27 +73,21 @@ unfolding sharedPool
 pool-long estimates pool e =
     rw (length-reverse (shares pool (true ∷ reverse (marks estimates))), shares-length (true ∷ reverse (marks estimates)) pool, length-reverse (marks estimates), e) (omega arith)
 
--- src/lib.rt:160:45
 count-sharers-requires : tie.Need-count-sharers-requires Inv-loop μ-loop
 count-sharers-requires c κs = c .pre .0
 
--- src/lib.rt:160:45
 add-take-share : tie.Need-add-take-share Inv-loop μ-loop
 add-take-share c = omega (arith, count-most c)
 
--- src/lib.rt:160:9
 take-share-requires : tie.Need-take-share-requires Inv-loop μ-loop
 take-share-requires c κs = (c .before .pre .1, (omega (arith, count-most c), (λ _. omega arith)))
 
--- src/lib.rt:161:5
 mul-volumes : tie.Need-mul-volumes Inv-loop μ-loop
 mul-volumes c = search needs
 
--- src/lib.rt:161:5
 array-write-volumes : tie.Need-array-write-volumes Inv-loop μ-loop
 array-write-volumes c = search needs
 
--- src/lib.rt:163:5
 loop-holds : tie.Need-loop-holds Inv-loop μ-loop
 unfolding sharedPool
 loop-holds c = let start = c .before .before in
@@ -117,36 +103,28 @@ loop-holds c = let start = c .before .before in
       walked = rw taken (rw long at (walked-first (marks estimates) pool 7 (omega arith)));
     }
 
--- src/lib.rt:164:9
 sub-i : tie.Need-sub-i Inv-loop μ-loop
 sub-i c = omega arith
 
--- src/lib.rt:165:24
 mul-estimate : tie.Need-mul-estimate Inv-loop μ-loop
 mul-estimate c = search needs
 
--- src/lib.rt:165:24
 element-copy-out-estimate : tie.Need-element-copy-out-estimate Inv-loop μ-loop
 element-copy-out-estimate c = search needs
 
--- src/lib.rt:166:9
 take-share-requires-2 : tie.Need-take-share-requires-2 Inv-loop μ-loop
 take-share-requires-2 c κs = let inv = c .before .before .loop .inv in
     (inv .left-within, (periods-most c, one-left c))
 
--- src/lib.rt:167:9
 mul-volumes-2 : tie.Need-mul-volumes-2 Inv-loop μ-loop
 mul-volumes-2 c = search needs
 
--- src/lib.rt:167:9
 array-write-volumes-2 : tie.Need-array-write-volumes-2 Inv-loop μ-loop
 array-write-volumes-2 c = search needs
 
--- src/lib.rt:163:5
 loop-less : tie.Need-loop-less Inv-loop μ-loop
 loop-less c = omega arith
 
--- src/lib.rt:163:5
 loop-again : tie.Need-loop-again Inv-loop μ-loop
 loop-again c = let inv = c .before .before .before .loop .inv in
     let start = c .before .before .before .before .before .before in
@@ -164,11 +142,9 @@ loop-again c = let inv = c .before .before .before .loop .inv in
       walked = rw (c .take-share2 .ensures) (walked-next (marks (start .args .t1)) (whole (start .args .t1) (start .args .pool)) left periods out j absent (omega (arith, count-long start, inv .within)) (omega (arith, inv .long, inv .within, inv .most)) (mark-is (start .args .t1) j (omega (arith, inv .within))) (rw next at (inv .walked)));
     }
 
--- src/lib.rt:170:16
 add-t12 : tie.Need-add-t12 Inv-loop μ-loop
 add-t12 c = omega arith
 
--- src/lib.rt:153:1
 returns : tie.Need-returns Inv-loop μ-loop
 returns c = let start = c .before .before .before .before in
     let inv = c .before .loop .inv in

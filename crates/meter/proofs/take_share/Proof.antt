@@ -1,40 +1,29 @@
-use mathlib.Core.Path.{_≡_}
-use mathlib.Core.Bool.{true, false}
 use native.Mathlib.Omega.{arith}
+use borrow.Author.Needs.{needs}
 use Rattle.meter.specs.Sharing.{shareTaken}
 use Rattle.meter.proofs.Sharing.{part-at-most}
-use borrow.Author.Needs.{needs}
 use Rattle.meter.proofs.take_share.Statement.{statement}
 use Rattle.meter.proofs.take_share.Tie as tie
-use Rattle.meter.proofs.take_share.Reads as reads
-use Rattle.meter.proofs.take_share.Lts as lts
 
--- src/lib.rt:138:9
 returns : tie.Need-returns
 unfolding shareTaken
 returns c = rw (c .if1 .taken)
 
--- src/lib.rt:144:25
 sub-part : tie.Need-sub-part
 sub-part c = omega (arith, c .before .pre .1 .1 (c .if1 .left))
 
--- src/lib.rt:144:17
 add-part : tie.Need-add-part
 add-part c = search needs
 
--- src/lib.rt:144:16
 div-part : tie.Need-div-part
 div-part c = c .before .pre .1 .1 (c .if1 .left)
 
--- src/lib.rt:147:15
 sub-t6 : tie.Need-sub-t6
 sub-t6 c = part-at-most (c .before .args .left) (c .before .args .periods) (c .before .pre .1 .1 (c .if1 .left))
 
--- src/lib.rt:148:18
 sub-t7 : tie.Need-sub-t7
 sub-t7 c = c .before .pre .1 .1 (c .if1 .left)
 
--- src/lib.rt:131:1
 returns-2 : tie.Need-returns-2
 unfolding shareTaken
 returns-2 c = rw (c .if1 .left)

@@ -1,20 +1,14 @@
-use native.Mathlib.Omega.{arith}
-use mathlib.Core.Path.{_≡_, ap, sym, _∙_}
+use mathlib.Core.Path.{_≡_, sym, _∙_}
 use mathlib.Core.Bool.{true, false}
 use Prim.Native.Nat.{_+_, _-_}
+use native.Mathlib.Omega.{arith}
 use borrow.Author.Tests.{not-true, not-false}
-use Rattle.calendar.specs.declared.Date.{Date}
-use Rattle.calendar.specs.Gregorian.{daysBeforeYear, daysBeforeMonth, dayNumber}
+use borrow.Author.Needs.{needs}
+use Rattle.calendar.specs.Gregorian.{dayNumber}
 use Rattle.calendar.specs.Conversions.{isDate, fromDate}
 use Rattle.calendar.proofs.RoundTrip.{Tested, tested, number-within}
-use borrow.Author.Needs.{needs}
 use Rattle.calendar.proofs.Day.from_date.Statement.{statement}
 use Rattle.calendar.proofs.Day.from_date.Tie as tie
-use Rattle.calendar.proofs.Day.from_date.Reads as reads
-use Rattle.calendar.proofs.Day.from_date.Lts as lts
-use Rattle.calendar.proofs.days_before_month.Reads as days-before-month-reads
-use Rattle.calendar.proofs.days_before_year.Reads as days-before-year-reads
-use Rattle.calendar.proofs.is_date.Reads as is-date-reads
 
 passed : (c : tie.Else1) → Tested (c .before .before .args .date)
 passed c = tested (c .before .before .args .date) (sym (c .before .is-date .ensures) ∙ not-false _ (c .if1 .left))
@@ -23,37 +17,29 @@ number-is : (c : tie.After-days-before-month) → c .before .days-before-year .r
 unfolding dayNumber
 number-is c = rw (c .before .days-before-year .ensures, c .days-before-month .ensures)
 
--- src/lib.rt:57:13
 is-date-requires : tie.Need-is-date-requires
 is-date-requires c κs = search needs
 
--- src/lib.rt:58:13
 returns : tie.Need-returns
 unfolding fromDate
 returns c = let none : isDate (c .before .before .args .date) ≡ false = sym (c .before .is-date .ensures) ∙ not-true _ (c .if1 .taken) in
     rw none
 
--- src/lib.rt:60:22
 days-before-year-requires : tie.Need-days-before-year-requires
 days-before-year-requires c κs = (passed c .valid .from-2000, omega (arith, passed c .to-2099))
 
--- src/lib.rt:60:52
 days-before-month-requires : tie.Need-days-before-month-requires
 days-before-month-requires c κs = (record { from-2000 = passed (c .before) .valid .from-2000; to-2099 = passed (c .before) .to-2099 }, omega (arith, passed (c .before) .valid .in-year))
 
--- src/lib.rt:60:22
 add-before : tie.Need-add-before
 add-before c = omega (arith, number-is c, number-within (c .before .before .before .before .args .date) (passed (c .before .before)))
 
--- src/lib.rt:61:47
 sub-t5 : tie.Need-sub-t5
 sub-t5 c = passed (c .before .before .before) .valid .from-first
 
--- src/lib.rt:61:37
 add-t6 : tie.Need-add-t6
 add-t6 c = omega (arith, number-is (c .before), number-within (c .before .before .before .before .before .args .date) (passed (c .before .before .before)))
 
--- src/lib.rt:54:5
 returns-2 : tie.Need-returns-2
 unfolding fromDate
 returns-2 c = let some : isDate (c .before .before .before .before .before .args .date) ≡ true = sym (c .before .before .before .before .is-date .ensures) ∙ not-false _ (c .before .before .before .if1 .left) in

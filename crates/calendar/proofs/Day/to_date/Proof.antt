@@ -1,22 +1,14 @@
-use Rattle.calendar.specs.Conversions.{InCentury}
+use mathlib.Core.Path.{_≡_, ap, ap₂, _∙_}
+use Prim.Native.Nat.{ℕ, _+_, _-_}
 use native.Mathlib.Omega.{arith}
-use mathlib.Core.Path.{_≡_, ap, ap₂, sym, _∙_}
-use Prim.Native.Nat.{ℕ, _+_, _-_, _≤_}
 use borrow.Author.Tests.{le-leb, lt-leb}
-use Rattle.calendar.specs.declared.FoundDate.{FoundDate}
-use Rattle.calendar.specs.Gregorian.{yearLength, dateAt, daysBeforeYear, daysBeforeMonth, dayNumber}
-use Rattle.calendar.specs.Conversions.{lastNumber, toDate}
+use borrow.Author.Needs.{needs}
+use Rattle.calendar.specs.Conversions.{InCentury, lastNumber, toDate}
+use Rattle.calendar.specs.Gregorian.{dateAt, daysBeforeYear, daysBeforeMonth, dayNumber}
 use Rattle.calendar.proofs.Dates.{dayOfYear, date-valid, date-number, within-year}
 use Rattle.calendar.proofs.RoundTrip.{Tested, date-tested}
-use borrow.Author.Needs.{needs}
 use Rattle.calendar.proofs.Day.to_date.Statement.{statement}
 use Rattle.calendar.proofs.Day.to_date.Tie as tie
-use Rattle.calendar.proofs.Day.to_date.Reads as reads
-use Rattle.calendar.proofs.Day.to_date.Lts as lts
-use Rattle.calendar.proofs.days_before_month.Reads as days-before-month-reads
-use Rattle.calendar.proofs.days_before_year.Reads as days-before-year-reads
-use Rattle.calendar.proofs.month_of.Reads as month-of-reads
-use Rattle.calendar.proofs.year_of.Reads as year-of-reads
 
 -- the parts of a day number: the days before its year, before its month and before its day
 parts : (number : ℕ) → number ≡ daysBeforeYear (dateAt number .year) + dayOfYear (dateAt number)
@@ -41,40 +33,31 @@ month-is c =
 month-over : (c : tie.After-days-before-month) → c .days-before-month .result ≡ daysBeforeMonth (dateAt (c .before .before .before .before .before .before .args .number) .year) (dateAt (c .before .before .before .before .before .before .args .number) .month)
 month-over c = c .days-before-month .ensures ∙ ap₂ daysBeforeMonth (c .before .before .before .year-of .ensures) (month-is (c .before))
 
--- src/lib.rt:44:13
 returns : tie.Need-returns
 unfolding toDate
 returns c = rw (lt-leb (c .before .before .args .number) lastNumber (c .if1 .taken))
 
--- src/lib.rt:46:13
 year-of-requires : tie.Need-year-of-requires
 year-of-requires c κs = search needs
 
--- src/lib.rt:47:36
 days-before-year-requires : tie.Need-days-before-year-requires
 days-before-year-requires c κs = omega (arith, in-century c)
 
--- src/lib.rt:47:27
 sub-day-of-year : tie.Need-sub-day-of-year
 sub-day-of-year c = omega (arith, year-over c, parts (c .before .before .before .before .args .number))
 
--- src/lib.rt:48:13
 month-of-requires : tie.Need-month-of-requires
 month-of-requires c κs = (in-century (c .before), rw (c .before .year-of .ensures) (omega (arith, year-over c, parts (c .before .before .before .before .args .number), within-year (dateAt (c .before .before .before .before .args .number)) (date-valid (c .before .before .before .before .args .number)))))
 
--- src/lib.rt:49:33
 days-before-month-requires : tie.Need-days-before-month-requires
 days-before-month-requires c κs = (in-century (c .before .before), rw (month-is c) (omega (arith, date-valid (c .before .before .before .before .before .args .number) .in-year)))
 
--- src/lib.rt:49:19
 sub-day : tie.Need-sub-day
 sub-day c = omega (arith, month-over c, year-over (c .before .before), parts (c .before .before .before .before .before .before .args .number))
 
--- src/lib.rt:49:19
 add-day : tie.Need-add-day
 add-day c = search needs
 
--- src/lib.rt:40:5
 returns-2 : tie.Need-returns-2
 unfolding toDate
 returns-2 c = let number = c .before .before .before .before .before .before .args .number in
