@@ -1,3 +1,4 @@
 -- Laws of sums and of padded lists.
 pub mod Sum
 pub mod Pad
+pub mod Every

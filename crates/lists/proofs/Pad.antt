@@ -1,11 +1,11 @@
 -- Laws of padded lists. Assumes nothing.
-use mathlib.Core.Path.{_≡_, ap, sym, _∙_}
+use mathlib.Core.Path.{_≡_, refl, ap, sym, _∙_}
 use mathlib.Core.List.{List, [], _∷_, _++_, map, map-append}
 use Prim.Native.Nat.{ℕ, zero, suc, _-_, _≤_, _<_}
 use native.Mathlib.Nat.{le-of-lt, sub-zero, zero-sub, suc-sub-suc}
 use native.Mathlib.Omega.{arith}
 use lib.ListN.{length, length-append, length-map, replicate, length-replicate, getD, set, take, drop}
-use lib.Seq.{take-append-seam, take-suc, length-take-le, set-at, append-snoc}
+use lib.Seq.{take-append-seam, take-append-le, take-all, take-nil, take-suc, length-take-le, set-at, append-snoc}
 use Rattle.lists.specs.Pad.{pad}
 
 module _ {A : Type 0} (blank : A) where
@@ -39,7 +39,29 @@ pub pad-map-next : {A B : Type 0} (f : A → B) (blank : B) (size : ℕ) (xs : L
 pad-map-next f blank size xs i d h within =
     pad-store blank size i (map f (take i xs)) (f (getD xs i d)) (length-map-take f xs i (le-of-lt h)) within ∙ ap (pad size blank) (sym (map-take-suc f xs i d h))
 
+-- An array that is filled from the front with the elements.
+pub pad-next : {A : Type 0} (blank : A) (size : ℕ) (xs : List A) (i : ℕ) (d : A) → i < length xs → i < size → set (pad size blank (take i xs)) i (getD xs i d) ≡ pad size blank (take (suc i) xs)
+pad-next blank size xs i d h within =
+    pad-store blank size i (take i xs) (getD xs i d) (length-take-le i xs (le-of-lt h)) within ∙ ap (pad size blank) (sym (take-suc xs i d h))
+
 pub drop-replicate : {A : Type 0} (x : A) (i n : ℕ) → drop i (replicate n x) ≡ replicate (n - i) x
 drop-replicate x zero n = ap (λ k. replicate k x) (sym (sub-zero n))
 drop-replicate x (suc i) zero = ap (λ k. replicate k x) (sym (zero-sub (suc i)))
 drop-replicate x (suc i) (suc n) = drop-replicate x i n ∙ ap (λ k. replicate k x) (sym (suc-sub-suc n i))
+
+-- a part from a place on, of a front
+pub drop-take : {A : Type 0} (n m : ℕ) (xs : List A) → drop n (take m xs) ≡ take (m - n) (drop n xs)
+drop-take zero m xs = ap (λ k. take k xs) (sym (sub-zero m))
+drop-take (suc n) zero xs = ap (λ k. take k (drop (suc n) xs)) (sym (zero-sub (suc n)))
+drop-take (suc n) (suc m) [] = sym (take-nil (suc m - suc n))
+drop-take (suc n) (suc m) (x ∷ xs) = drop-take n m xs ∙ ap (λ k. take k (drop n xs)) (sym (suc-sub-suc m n))
+
+-- One more element behind a list of which an array holds the front: it is stored where there is room, and else left out.
+pub pad-push : {A : Type 0} (blank : A) (size : ℕ) (xs : List A) (x : A) → length xs < size → set (pad size blank (take size xs)) (length xs) x ≡ pad size blank (take size (xs ++ (x ∷ [])))
+pad-push blank size xs x h =
+    let all : take size xs ≡ xs = take-all size xs (le-of-lt h) in
+    let more : take size (xs ++ (x ∷ [])) ≡ xs ++ (x ∷ []) = take-all size (xs ++ (x ∷ [])) (rw (length-append xs (x ∷ [])) (omega arith)) in
+    rw (all, more) (pad-store blank size (length xs) xs x refl h)
+
+pub pad-full : {A : Type 0} (blank : A) (size : ℕ) (xs : List A) (x : A) → size ≤ length xs → pad size blank (take size xs) ≡ pad size blank (take size (xs ++ (x ∷ [])))
+pad-full blank size xs x h = ap (pad size blank) (sym (take-append-le size xs (x ∷ []) h))

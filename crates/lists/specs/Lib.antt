@@ -1,3 +1,4 @@
 -- Sums over lists, and arrays filled from the front.
 pub mod Sum
 pub mod Pad
+pub mod Every

@@ -1,0 +1,8 @@
+-- Laws of the ledger.
+pub mod Interest
+pub mod Bounds
+pub mod Settling
+pub mod Posting
+pub mod Cover
+pub mod Paying
+pub mod Signed

@@ -1,0 +1,39 @@
+-- A net by its sign. Assumes nothing.
+use mathlib.Core.Path.{_≡_, refl, ap}
+use mathlib.Core.Bool.{true, false, true≢false}
+use Prim.Native.Nat.{suc}
+use native.Mathlib.Nat.{not-suc-le-zero, zero-add}
+use native.Mathlib.Omega.{arith}
+use lib.Dec.{T}
+use lib.IntN.{ℤ, pos, negsuc, natAbs, _-ℤ_}
+use lib.Signed.{ltZ, nonNeg}
+use mir.Syntax.{w32, w64}
+use mir.Val.{Fits, SFits}
+use borrow.Author.Tests.{ltb-true}
+use Rattle.ledger.specs.Posting.{chargeOf, creditOf}
+
+pub charge-negative : (net : ℤ) → ltZ net (pos 0) ≡ true → chargeOf net ≡ 0
+charge-negative (pos n) e = absurd (not-suc-le-zero (ltb-true n 0 e))
+charge-negative (negsuc n) e = refl
+
+pub credit-nonnegative : (net : ℤ) → ltZ net (pos 0) ≡ false → creditOf net ≡ 0
+credit-nonnegative (pos n) e = refl
+credit-nonnegative (negsuc n) e = absurd (true≢false e)
+
+-- a net that is not below zero is its own charge
+pub charge-nonnegative : (net : ℤ) → ltZ net (pos 0) ≡ false → natAbs net ≡ chargeOf net
+charge-nonnegative (pos n) e = refl
+charge-nonnegative (negsuc n) e = absurd (true≢false e)
+
+pub nonnegative : (net : ℤ) → ltZ net (pos 0) ≡ false → T (nonNeg net)
+nonnegative (pos n) e = tt
+nonnegative (negsuc n) e = absurd (true≢false e)
+
+-- a net below zero, turned round, is what it credits
+pub turned : (net : ℤ) → ltZ net (pos 0) ≡ true → pos 0 -ℤ net ≡ pos (creditOf net)
+turned (pos n) e = absurd (not-suc-le-zero (ltb-true n 0 e))
+turned (negsuc n) e = ap pos (zero-add (suc n))
+
+pub magnitude-fits : (net : ℤ) → SFits w32 net → Fits w64 (natAbs net)
+magnitude-fits (pos n) f = record { fits = omega (arith, f .sfits) }
+magnitude-fits (negsuc n) f = record { fits = omega (arith, f .sfits) }

@@ -1,0 +1,4 @@
+-- The ledger of an account: articles 20(1), 27 and 28 of the supply terms.
+pub mod Interest
+pub mod Settling
+pub mod Posting

@@ -1,0 +1,265 @@
+// The ledger of an account: the queue of open items, settling, posting and late interest. Articles 20(1), 27 and 28 of the supply terms.
+ghost use mathlib.Core.Path.{_≡_};
+ghost use mathlib.Core.Bool.{true};
+ghost use mathlib.Core.List.{List, [], _∷_, _++_};
+ghost use Prim.Native.Nat.{_+_, _≤_};
+ghost use lib.ListN.{length, take, drop};
+ghost use Rattle.lists.specs.Pad.{pad};
+ghost use Rattle.ledger.specs.declared.Item.{Item};
+ghost use Rattle.ledger.specs.Interest.{isPrice, body, interestOn};
+ghost use Rattle.ledger.specs.Settling.{unpaidOf};
+ghost use Rattle.ledger.specs.Posting.{Standing, stored, standing, entered, post, closed, paid, heldPosted, coverage, blank, capacity, chargeOf, creditOf, LedgerBounds, NetBounds, Ready};
+
+pub enum Kind {
+    Interest,
+    Price,
+}
+
+pub struct Item {
+    pub amount: u64,
+    pub unpaid: u64,
+    pub obligation: u16,
+    pub due: u16,
+    pub kind: Kind,
+}
+
+// The open items from the front, oldest first; interest held until the next closing; the credit balance.
+pub struct Ledger {
+    pub count: usize,
+    pub items: [Item; 72],
+    pub held: u64,
+    pub credit: u64,
+}
+
+// The items from the front that an amount covers, what is left of it, and the interest that they bring.
+pub struct Coverage {
+    pub covered: usize,
+    pub left: u64,
+    pub arisen: u64,
+}
+
+// Days from obligation to due (H).
+const TERM: u16 = 30;
+
+const BLANK: Item = Item {
+    amount: 0,
+    unpaid: 0,
+    obligation: 0,
+    due: 0,
+    kind: Kind::Interest,
+};
+
+impl Ledger {
+    pub fn new() -> Ledger
+        ensures { λ r. ⌜ r ≡ stored (record { open-items = []; credit = 0; held = 0 }) ⌝ }
+    {
+        Ledger {
+            count: 0,
+            items: [BLANK; 72],
+            held: 0,
+            credit: 0,
+        }
+    }
+
+    // What is unpaid over all open items.
+    pub fn unpaid(self) -> u64
+        requires { ⌜ LedgerBounds self ⌝ }
+        ensures { λ r. ⌜ r ≡ unpaidOf (standing self .open-items) ⌝ }
+    {
+        let count = self.count;
+        let mut sum: u64 = 0;
+        let mut i: usize = 0;
+        while i < count {
+            let item = self.items[i];
+            sum += item.unpaid;
+            i += 1;
+        }
+        sum
+    }
+
+    // As many items from the front as an amount covers: 28.
+    fn cover(self, day: u16, money: u64) -> Coverage
+        requires { ⌜ LedgerBounds self ⌝ }
+        requires { ⌜ day ≤ 36494 ⌝ }
+        ensures { λ r. ⌜ r ≡ coverage day money (standing self .open-items) ⌝ }
+    {
+        let count = self.count;
+        let mut left = money;
+        let mut arisen: u64 = 0;
+        let mut i: usize = 0;
+        while i < count {
+            let item = self.items[i];
+            if left < item.unpaid {
+                break;
+            }
+            left -= item.unpaid;
+            arisen += interest_on(item, day);
+            i += 1;
+        }
+        Coverage {
+            covered: i,
+            left: left,
+            arisen: arisen,
+        }
+    }
+
+    // A payment, or money credited: the oldest items are settled first, and what is over is credit.
+    pub fn pay(self, day: u16, yen: u64) -> Ledger
+        requires { ⌜ LedgerBounds self ⌝ }
+        requires { ⌜ day ≤ 36494 ⌝ }
+        requires { ⌜ yen ≤ 1000000000 ⌝ }
+        ensures { λ r. ⌜ r ≡ stored (paid day yen (standing self)) ⌝ }
+    {
+        let cover = self.cover(day, self.credit + yen);
+        let held = self.held + cover.arisen;
+        let all = self.items;
+        let mut items = rest_of(all, cover.covered, self.count);
+        let rest = self.count - cover.covered;
+        if rest == 0 {
+            return Ledger {
+                count: rest,
+                items: items,
+                held: held,
+                credit: cover.left,
+            };
+        }
+        let mut first = items[0];
+        first.unpaid -= cover.left;
+        items[0] = first;
+        Ledger {
+            count: rest,
+            items: items,
+            held: held,
+            credit: 0,
+        }
+    }
+
+    // An amount above zero becomes an item of the day, less the credit that is there.
+    fn post_item(mut self, kind: Kind, day: u16, amount: u64) -> Ledger
+        requires { ⌜ day ≤ 36494 ⌝ }
+        requires { ⌜ self .count ≤ 80 ⌝ }
+        ensures { λ r. ⌜ ((s : Standing) → self ≡ stored s → Ready s → r ≡ stored (post day 0 (entered kind day amount) s)) ⌝ }
+    {
+        let credit = self.credit;
+        if amount <= credit {
+            self.credit = credit - amount;
+            return self;
+        }
+        let at = self.count;
+        let all = self.items;
+        let item = Item {
+            amount: amount,
+            unpaid: amount - credit,
+            obligation: day,
+            due: day + TERM,
+            kind: kind,
+        };
+        let items = with_item(all, at, item);
+        Ledger {
+            count: at + 1,
+            items: items,
+            held: self.held,
+            credit: 0,
+        }
+    }
+
+    // A closing: interest held becomes an item, then a net above zero; a net below zero is credited.
+    pub fn close(self, day: u16, net: i32) -> Ledger
+        requires { ⌜ LedgerBounds self ⌝ }
+        requires { ⌜ day ≤ 36494 ⌝ }
+        requires { ⌜ NetBounds net ⌝ }
+        ensures { λ r. ⌜ r ≡ stored (closed day net (standing self)) ⌝ }
+    {
+        let held = self.held;
+        let mut ledger = self;
+        ledger.held = 0;
+        ledger
+            .pay(day, credit_of(net))
+            .post_item(Kind::Interest, day, held)
+            .post_item(Kind::Price, day, charge_of(net))
+    }
+
+    // Interest held becomes an item by itself.
+    pub fn post_held(self, day: u16) -> Ledger
+        requires { ⌜ day ≤ 36494 ⌝ }
+        requires { ⌜ self .count ≤ 80 ⌝ }
+        ensures { λ r. ⌜ ((s : Standing) → self ≡ stored s → Ready s → r ≡ stored (heldPosted day s)) ⌝ }
+    {
+        let held = self.held;
+        let mut ledger = self;
+        ledger.held = 0;
+        ledger.post_item(Kind::Interest, day, held)
+    }
+}
+
+// The items with one more behind them, where there is room for it.
+fn with_item(items: [Item; 72], at: usize, item: Item) -> [Item; 72]
+    ensures { λ r. ⌜ ((open-items : List Item) → items ≡ pad capacity blank (take capacity open-items) → at ≡ length open-items → r ≡ pad capacity blank (take capacity (open-items ++ (item ∷ [])))) ⌝ }
+{
+    let mut out = items;
+    if at < 72 {
+        out[at] = item;
+        return out;
+    }
+    out
+}
+
+// The items from a place on, moved to the front.
+fn rest_of(items: [Item; 72], from: usize, count: usize) -> [Item; 72]
+    requires { ⌜ count ≤ capacity ⌝ }
+    requires { ⌜ from ≤ count ⌝ }
+    ensures { λ r. ⌜ r ≡ pad capacity blank (drop from (take count items)) ⌝ }
+{
+    let rest = count - from;
+    let mut out = [BLANK; 72];
+    let mut i: usize = 0;
+    while i < rest {
+        out[i] = items[from + i];
+        i += 1;
+    }
+    out
+}
+
+// The part of a net that is charged.
+fn charge_of(net: i32) -> u64
+    ensures { λ r. ⌜ r ≡ chargeOf net ⌝ }
+{
+    if net < 0 { 0 } else { net as u64 }
+}
+
+// The part of a net that is credited.
+fn credit_of(net: i32) -> u64
+    requires { ⌜ NetBounds net ⌝ }
+    ensures { λ r. ⌜ r ≡ creditOf net ⌝ }
+{
+    if net < 0 { (0 - net) as u64 } else { 0 }
+}
+
+// The amount of a price without the tax in it: 27(2).
+fn body_of(amount: u64) -> u64
+    requires { ⌜ amount ≤ 1000000000 ⌝ }
+    ensures { λ r. ⌜ r ≡ body amount ⌝ }
+{
+    amount - amount * 8 / 108
+}
+
+// The interest of an item that is settled on a day: 27.
+pub fn interest_on(item: Item, day: u16) -> u64
+    requires { ⌜ (isPrice (item .kind) ≡ true → item .amount ≤ 1000000000) ⌝ }
+    ensures { λ r. ⌜ r ≡ interestOn item day ⌝ }
+{
+    let kind = item.kind;
+    match kind {
+        Kind::Interest => 0,
+        Kind::Price => {
+            if day <= item.due {
+                return 0;
+            }
+            let late = (day - item.due) as u64;
+            if late <= 10 {
+                return 0;
+            }
+            body_of(item.amount) * late * 274 / 1_000_000
+        }
+    }
+}

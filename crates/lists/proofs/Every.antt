@@ -1,0 +1,35 @@
+-- What holds of every element of a list. Assumes nothing.
+use mathlib.Core.Path.{_≡_, refl}
+use mathlib.Core.Bool.{Bool, true, and-eq-true-iff}
+use mathlib.Core.List.{List, [], _∷_, _++_}
+use Prim.Native.Nat.{ℕ, zero, suc, _<_}
+use native.Mathlib.Nat.{not-suc-le-zero, le-of-suc-le-suc}
+use lib.ListN.{length, getD}
+use Rattle.lists.specs.Every.{every, Every}
+
+module _ {A : Type 0} (P : A → Type 0) where
+  pub every-append : (xs ys : List A) → Every P xs → Every P ys → Every P (xs ++ ys)
+  every-append [] ys a b = b
+  every-append (x ∷ xs) ys a b = (a .0, every-append xs ys (a .1) b)
+
+  pub every-at : (xs : List A) (i : ℕ) (d : A) → i < length xs → Every P xs → P (getD xs i d)
+  every-at [] i d h e = absurd (not-suc-le-zero h)
+  every-at (x ∷ xs) zero d h e = e .0
+  every-at (x ∷ xs) (suc i) d h e = every-at xs i d (le-of-suc-le-suc h) (e .1)
+
+-- what holds of each element gives another fact of each
+pub every-map : {A : Type 0} (P Q : A → Type 0) → ((x : A) → P x → Q x) → (xs : List A) → Every P xs → Every Q xs
+every-map P Q f [] e = tt
+every-map P Q f (x ∷ xs) e = (f x (e .0), every-map P Q f xs (e .1))
+
+-- From the test to the facts, and back.
+module _ {A : Type 0} (test : A → Bool) where
+  pub every-true : (xs : List A) → every test xs ≡ true → Every (λ x. test x ≡ true) xs
+  every-true [] e = tt
+  every-true (x ∷ xs) e =
+      let both = and-eq-true-iff (test x) (every test xs) .0 e in
+      (both .0, every-true xs (both .1))
+
+  pub true-every : (xs : List A) → Every (λ x. test x ≡ true) xs → every test xs ≡ true
+  true-every [] e = refl
+  true-every (x ∷ xs) e = and-eq-true-iff (test x) (every test xs) .1 (e .0, true-every xs (e .1))
