@@ -151,3 +151,20 @@ reached-when-settled day money (item ∷ items) i h = go (leb (item .unpaid) mon
       where
         never : j < suc (length items) - suc (length items) → ⊥
         never m = omega arith
+
+-- The day bears on the interest alone.
+pub day-left : (day later money : ℕ) (items : List Item) → settle day money items .left ≡ settle later money items .left
+day-left day later money [] = refl
+day-left day later money (item ∷ items) = go (leb (item .unpaid) money) refl (day-left day later (money - item .unpaid) items)
+  where
+    go : (b : Bool) → leb (item .unpaid) money ≡ b → settle day (money - item .unpaid) items .left ≡ settle later (money - item .unpaid) items .left → settle day money (item ∷ items) .left ≡ settle later money (item ∷ items) .left
+    go true e ih = rw e ih
+    go false e ih = rw e
+
+pub day-open : (day later money : ℕ) (items : List Item) → settle day money items .open-items ≡ settle later money items .open-items
+day-open day later money [] = refl
+day-open day later money (item ∷ items) = go (leb (item .unpaid) money) refl (day-open day later (money - item .unpaid) items)
+  where
+    go : (b : Bool) → leb (item .unpaid) money ≡ b → settle day (money - item .unpaid) items .open-items ≡ settle later (money - item .unpaid) items .open-items → settle day money (item ∷ items) .open-items ≡ settle later money (item ∷ items) .open-items
+    go true e ih = rw e ih
+    go false e ih = rw e

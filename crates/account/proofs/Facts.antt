@@ -1,0 +1,244 @@
+-- What a whole account keeps to, as facts about its fields. Assumes nothing.
+use mathlib.Core.Path.{_≡_, refl}
+use mathlib.Core.Logic.{_⊎_}
+use mathlib.Core.Bool.{Bool, true, false, cond, _&&_, _||_}
+use mathlib.Core.List.{List, []}
+use Prim.Native.Nat.{ℕ, _+_, _%_, _≤_, _<_}
+use native.Mathlib.Omega.{arith}
+use lib.Dec.{leb, ltb, eqb}
+use borrow.Author.Tests.{leb-true, le-leb, ltb-true, lt-ltb, eqb-true, eq-eqb}
+use Rattle.lists.specs.Every.{every, Every}
+use Rattle.lists.proofs.Every.{every-true, true-every, every-map}
+use Rattle.tariff.specs.declared.Fuel.{Fuel}
+use Rattle.tariff.specs.Fuel.{WithinFuel}
+use Rattle.meter.specs.declared.Estimate.{Estimate}
+use Rattle.meter.specs.Dial.{span, Digits}
+use Rattle.ledger.specs.declared.Item.{Item}
+use Rattle.ledger.specs.declared.Ledger.{Ledger}
+use Rattle.ledger.specs.Interest.{isPrice}
+use Rattle.ledger.specs.Posting.{standing}
+use Rattle.account.specs.declared.Status.{Status}
+use Rattle.account.specs.declared.Status.the-variants.{New, Supplied, Stopped, Cancelled}
+use Rattle.account.specs.declared.Account.{Account}
+use Rattle.account.specs.Limits.{within, priceAllowed, fuelAllowed, dayAllowed, digitsAllowed, onDial, volumeAllowed, missesAllowed, itemsAllowed, creditAllowed}
+use Rattle.account.specs.Calls.{standingEstimates}
+use Rattle.account.specs.Whole.{wholeEstimate, wholeItem, wholeLedger, wholeMeter, asMade, wholeStatus, whole}
+use Rattle.account.proofs.Tests.{and-left, and-right, and-intro, within-low, within-high, within-intro, either-zero, zero-either}
+
+pub fuel-within : (fuel : Fuel) → fuelAllowed fuel ≡ true → WithinFuel fuel
+fuel-within fuel e =
+    record {
+      lng-within = price (fuel .lng) (and-left (priceAllowed (fuel .lng)) (priceAllowed (fuel .propane)) e);
+      propane-within = price (fuel .propane) (and-right (priceAllowed (fuel .lng)) (priceAllowed (fuel .propane)) e)
+    }
+  where
+    price : (n : ℕ) → priceAllowed n ≡ true → n ≤ 300000
+    price n t = leb-true n 300000 (and-left (leb n 300000) (eqb (n % 10) 0) t)
+
+-- An estimate.
+pub record EstimateFacts (estimate : Estimate) : Type 0 where
+  pub days-least : 1 ≤ estimate .days
+  pub days-most : estimate .days ≤ 36495
+  pub fuel-allowed : fuelAllowed (estimate .fuel) ≡ true
+  pub volume-most : estimate .volume ≤ 99999
+  pub charged-most : estimate .charged ≤ 100000000
+
+pub estimate-facts : (estimate : Estimate) → wholeEstimate estimate ≡ true → EstimateFacts estimate
+unfolding wholeEstimate
+estimate-facts estimate e =
+    let days = within 1 36495 (estimate .days) in
+    let fuel = fuelAllowed (estimate .fuel) in
+    let volume = volumeAllowed (estimate .volume) in
+    let three = and-left (days && fuel && volume) (leb (estimate .charged) 100000000) e in
+    let two = and-left (days && fuel) volume three in
+    record {
+      days-least = within-low 1 36495 (estimate .days) (and-left days fuel two);
+      days-most = within-high 1 36495 (estimate .days) (and-left days fuel two);
+      fuel-allowed = and-right days fuel two;
+      volume-most = leb-true (estimate .volume) 99999 (and-right (days && fuel) volume three);
+      charged-most = leb-true (estimate .charged) 100000000 (and-right (days && fuel && volume) (leb (estimate .charged) 100000000) e)
+    }
+
+pub estimate-whole : (estimate : Estimate) → EstimateFacts estimate → wholeEstimate estimate ≡ true
+unfolding wholeEstimate
+estimate-whole estimate w =
+    and-intro
+    (and-intro
+    (and-intro (within-intro 1 36495 (estimate .days) (w .days-least) (w .days-most)) (w .fuel-allowed))
+    (le-leb (estimate .volume) 99999 (w .volume-most)))
+    (le-leb (estimate .charged) 100000000 (w .charged-most))
+
+-- An item.
+pub record ItemFacts (latest : ℕ) (item : Item) : Type 0 where
+  pub unpaid-least : 1 ≤ item .unpaid
+  pub unpaid-most : item .unpaid ≤ item .amount
+  pub price-most : isPrice (item .kind) ≡ true → item .amount ≤ 1000000000
+  pub amount-most : item .amount ≤ 1000000000000
+  pub obligation-most : item .obligation ≤ latest
+  pub due-most : item .due ≤ 36524
+
+pub item-facts : (latest : ℕ) (item : Item) → wholeItem latest item ≡ true → ItemFacts latest item
+unfolding wholeItem
+item-facts latest item e =
+    let unpaid = within 1 (item .amount) (item .unpaid) in
+    let amount = leb (item .amount) (cond (isPrice (item .kind)) 1000000000 1000000000000) in
+    let obligation = leb (item .obligation) latest in
+    let three = and-left (unpaid && amount && obligation) (leb (item .due) 36524) e in
+    let two = and-left (unpaid && amount) obligation three in
+    let bound = leb-true (item .amount) (cond (isPrice (item .kind)) 1000000000 1000000000000) (and-right unpaid amount two) in
+    record {
+      unpaid-least = within-low 1 (item .amount) (item .unpaid) (and-left unpaid amount two);
+      unpaid-most = within-high 1 (item .amount) (item .unpaid) (and-left unpaid amount two);
+      price-most = λ p. rw p at bound;
+      amount-most = either (isPrice (item .kind)) bound;
+      obligation-most = leb-true (item .obligation) latest (and-right (unpaid && amount) obligation three);
+      due-most = leb-true (item .due) 36524 (and-right (unpaid && amount && obligation) (leb (item .due) 36524) e)
+    }
+  where
+    either : (b : Bool) → item .amount ≤ cond b 1000000000 1000000000000 → item .amount ≤ 1000000000000
+    either true h = omega arith
+    either false h = h
+
+pub item-whole : (latest : ℕ) (item : Item) → ItemFacts latest item → wholeItem latest item ≡ true
+unfolding wholeItem
+item-whole latest item w =
+    and-intro
+    (and-intro
+    (and-intro (within-intro 1 (item .amount) (item .unpaid) (w .unpaid-least) (w .unpaid-most)) (amount (isPrice (item .kind)) refl))
+    (le-leb (item .obligation) latest (w .obligation-most)))
+    (le-leb (item .due) 36524 (w .due-most))
+  where
+    amount : (b : Bool) → isPrice (item .kind) ≡ b → leb (item .amount) (cond (isPrice (item .kind)) 1000000000 1000000000000) ≡ true
+    amount true e = rw e (le-leb (item .amount) 1000000000 (w .price-most e))
+    amount false e = rw e (le-leb (item .amount) 1000000000000 (w .amount-most))
+
+-- The ledger.
+pub record LedgerFacts (latest : ℕ) (ledger : Ledger) : Type 0 where
+  pub count-most : ledger .count ≤ 72
+  pub items : Every (ItemFacts latest) (standing ledger .open-items)
+  pub held-most : ledger .held ≤ 1000000000000
+  pub credit-most : ledger .credit ≤ 999999999
+  pub credit-or-none : (ledger .credit ≡ 0) ⊎ (ledger .count ≡ 0)
+
+pub ledger-facts : (latest : ℕ) (ledger : Ledger) → wholeLedger latest ledger ≡ true → LedgerFacts latest ledger
+unfolding wholeLedger
+ledger-facts latest ledger e =
+    let count = itemsAllowed (ledger .count) in
+    let items = every (wholeItem latest) (standing ledger .open-items) in
+    let held = leb (ledger .held) 1000000000000 in
+    let credit = creditAllowed (ledger .credit) in
+    let free = eqb (ledger .credit) 0 || eqb (ledger .count) 0 in
+    let four = and-left (count && items && held && credit) free e in
+    let three = and-left (count && items && held) credit four in
+    let two = and-left (count && items) held three in
+    record {
+      count-most = leb-true (ledger .count) 72 (and-left count items two);
+      items = every-map (λ item. wholeItem latest item ≡ true) (ItemFacts latest) (item-facts latest) (standing ledger .open-items) (every-true (wholeItem latest) (standing ledger .open-items) (and-right count items two));
+      held-most = leb-true (ledger .held) 1000000000000 (and-right (count && items) held three);
+      credit-most = leb-true (ledger .credit) 999999999 (and-right (count && items && held) credit four);
+      credit-or-none = either-zero (ledger .credit) (ledger .count) (and-right (count && items && held && credit) free e)
+    }
+
+pub ledger-whole : (latest : ℕ) (ledger : Ledger) → LedgerFacts latest ledger → wholeLedger latest ledger ≡ true
+unfolding wholeLedger
+ledger-whole latest ledger w =
+    and-intro
+    (and-intro
+    (and-intro
+    (and-intro
+    (le-leb (ledger .count) 72 (w .count-most))
+    (true-every (wholeItem latest) (standing ledger .open-items) (every-map (ItemFacts latest) (λ item. wholeItem latest item ≡ true) (item-whole latest) (standing ledger .open-items) (w .items))))
+    (le-leb (ledger .held) 1000000000000 (w .held-most)))
+    (le-leb (ledger .credit) 999999999 (w .credit-most)))
+    (zero-either (ledger .credit) (ledger .count) (w .credit-or-none))
+
+-- The meter and what was estimated.
+pub record MeterFacts (a : Account) : Type 0 where
+  pub latest-most : a .latest ≤ 36494
+  pub digits-within : Digits (a .digits)
+  pub dial-within : a .dial < span (a .digits)
+  pub pool-most : a .pool ≤ 99999
+  pub previous-most : a .previous ≤ 99999
+  pub misses-most : a .estimates .count ≤ 6
+  pub estimates : Every EstimateFacts (standingEstimates a)
+
+pub meter-facts : (a : Account) → wholeMeter a ≡ true → MeterFacts a
+unfolding wholeMeter
+meter-facts a e =
+    let day = dayAllowed (a .latest) in
+    let digits = digitsAllowed (a .digits) in
+    let dial = onDial (a .digits) (a .dial) in
+    let pool = volumeAllowed (a .pool) in
+    let previous = volumeAllowed (a .previous) in
+    let misses = missesAllowed (a .estimates .count) in
+    let estimates = every wholeEstimate (standingEstimates a) in
+    let six = and-left (day && digits && dial && pool && previous && misses) estimates e in
+    let five = and-left (day && digits && dial && pool && previous) misses six in
+    let four = and-left (day && digits && dial && pool) previous five in
+    let three = and-left (day && digits && dial) pool four in
+    let two = and-left (day && digits) dial three in
+    record {
+      latest-most = leb-true (a .latest) 36494 (and-left day digits two);
+      digits-within = (within-low 4 5 (a .digits) (and-right day digits two), within-high 4 5 (a .digits) (and-right day digits two));
+      dial-within = ltb-true (a .dial) (span (a .digits)) (and-right (day && digits) dial three);
+      pool-most = leb-true (a .pool) 99999 (and-right (day && digits && dial) pool four);
+      previous-most = leb-true (a .previous) 99999 (and-right (day && digits && dial && pool) previous five);
+      misses-most = leb-true (a .estimates .count) 6 (and-right (day && digits && dial && pool && previous) misses six);
+      estimates =
+          every-map (λ x. wholeEstimate x ≡ true) EstimateFacts estimate-facts (standingEstimates a)
+          (every-true wholeEstimate (standingEstimates a) (and-right (day && digits && dial && pool && previous && misses) estimates e))
+    }
+
+pub meter-whole : (a : Account) → MeterFacts a → wholeMeter a ≡ true
+unfolding wholeMeter
+meter-whole a w =
+    and-intro
+    (and-intro
+    (and-intro
+    (and-intro
+    (and-intro
+    (and-intro (le-leb (a .latest) 36494 (w .latest-most)) (within-intro 4 5 (a .digits) (w .digits-within .0) (w .digits-within .1)))
+    (lt-ltb (a .dial) (span (a .digits)) (w .dial-within)))
+    (le-leb (a .pool) 99999 (w .pool-most)))
+    (le-leb (a .previous) 99999 (w .previous-most)))
+    (le-leb (a .estimates .count) 6 (w .misses-most)))
+    (true-every wholeEstimate (standingEstimates a) (every-map EstimateFacts (λ x. wholeEstimate x ≡ true) estimate-whole (standingEstimates a) (w .estimates)))
+
+-- An account that is not new.
+pub record Facts (a : Account) : Type 0 where
+  pub meter : MeterFacts a
+  pub ledger : LedgerFacts (a .latest) (a .ledger)
+
+-- What its status adds.
+abbrev pub StatusFacts : Status → Account → Type 0
+StatusFacts New a = asMade a ≡ true
+StatusFacts (Supplied start) a = (start ≤ a .latest + 1) × Facts a
+StatusFacts (Stopped stop) a = (stop ≤ a .latest) × Facts a
+StatusFacts Cancelled a = (a .ledger .held ≡ 0) × Facts a
+
+both-parts : (a : Account) (test : Bool) → (test && wholeMeter a && wholeLedger (a .latest) (a .ledger)) ≡ true → (test ≡ true) × Facts a
+both-parts a test e =
+    let first = and-left (test && wholeMeter a) (wholeLedger (a .latest) (a .ledger)) e in
+    (and-left test (wholeMeter a) first, record { meter = meter-facts a (and-right test (wholeMeter a) first); ledger = ledger-facts (a .latest) (a .ledger) (and-right (test && wholeMeter a) (wholeLedger (a .latest) (a .ledger)) e) })
+
+status-facts : (status : Status) (a : Account) → wholeStatus status a ≡ true → StatusFacts status a
+unfolding wholeStatus
+status-facts New a e = e
+status-facts (Supplied start) a e = let b = both-parts a (leb start (a .latest + 1)) e in (leb-true start (a .latest + 1) (b .0), b .1)
+status-facts (Stopped stop) a e = let b = both-parts a (leb stop (a .latest)) e in (leb-true stop (a .latest) (b .0), b .1)
+status-facts Cancelled a e = let b = both-parts a (eqb (a .ledger .held) 0) e in (eqb-true (a .ledger .held) 0 (b .0), b .1)
+
+-- A whole account has the facts of its status, and one that has them is whole.
+pub whole-facts : (a : Account) → whole a ≡ true → StatusFacts (a .status) a
+unfolding whole
+whole-facts a e = status-facts (a .status) a e
+
+parts-whole : (a : Account) (test : Bool) → test ≡ true → Facts a → (test && wholeMeter a && wholeLedger (a .latest) (a .ledger)) ≡ true
+parts-whole a test t w = and-intro (and-intro t (meter-whole a (w .meter))) (ledger-whole (a .latest) (a .ledger) (w .ledger))
+
+pub facts-whole : (status : Status) (a : Account) → StatusFacts status a → wholeStatus status a ≡ true
+unfolding wholeStatus
+facts-whole New a w = w
+facts-whole (Supplied start) a w = parts-whole a (leb start (a .latest + 1)) (le-leb start (a .latest + 1) (w .0)) (w .1)
+facts-whole (Stopped stop) a w = parts-whole a (leb stop (a .latest)) (le-leb stop (a .latest) (w .0)) (w .1)
+facts-whole Cancelled a w = parts-whole a (eqb (a .ledger .held) 0) (eq-eqb (a .ledger .held) 0 (w .0)) (w .1)

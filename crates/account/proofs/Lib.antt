@@ -1,0 +1,3 @@
+-- Laws of the account.
+pub mod Tests
+pub mod Facts

@@ -1,0 +1,224 @@
+-- The ten calls: what each makes of an account, and what its answer says, before the limits of numbers 12 and 13.
+use Prim.Native.Nat.{ℕ, _+_}
+use mathlib.Core.Bool.{Bool, true, false, cond}
+use mathlib.Core.List.{List, [], _∷_, _++_}
+use lib.IntN.{ℤ, pos}
+use Rattle.tariff.specs.declared.Fuel.{Fuel}
+use Rattle.tariff.specs.Price.{priceOf}
+use Rattle.meter.specs.declared.Estimate.{Estimate}
+use Rattle.meter.specs.declared.Estimates.{Estimates}
+use Rattle.meter.specs.Dial.{advance}
+use Rattle.meter.specs.Sharing as Sharing
+use Rattle.meter.specs.Sharing.{finalVolumes}
+use Rattle.ledger.specs.declared.Ledger.{Ledger}
+use Rattle.ledger.specs.Posting.{Standing, standing, stored, closed, paid, heldPosted}
+use Rattle.account.specs.declared.Status.{Status}
+use Rattle.account.specs.declared.Status.the-variants.{New, Supplied, Stopped, Cancelled}
+use Rattle.account.specs.declared.Account.{Account}
+use Rattle.account.specs.declared.Call.{Call}
+use Rattle.account.specs.declared.Call.the-variants.{Opening, Reading, Missed, Absent, Exchange, Disconnection, Reconnection, Cancellation, Payment, StoppedCancellation}
+use Rattle.account.specs.Closing.{startOf, stopOf, daysOf, dayAfter, resumedStart, ofThisPeriod, netOf, storedEstimates}
+
+abbrev pub newAccount : Account
+newAccount =
+    record {
+      status = New;
+      latest = 0;
+      digits = 0;
+      dial = 0;
+      pool = 0;
+      previous = 0;
+      estimates = storedEstimates [];
+      ledger = stored (record { open-items = []; credit = 0; held = 0 })
+    }
+
+-- What a call makes: the account after it, the estimated volume, the volumes made final, the net, and interest posted.
+pub record Work : Type 0 where
+  pub account : Account
+  pub estimated : ℕ
+  pub volumes : List ℕ
+  pub net : ℤ
+  pub interest : ℕ
+
+-- A call that closes nothing and posts no interest.
+abbrev pub quiet : Account → Work
+quiet account = record { account = account; estimated = 0; volumes = []; net = pos 0; interest = 0 }
+
+abbrev pub standingEstimates : Account → List Estimate
+standingEstimates a = Sharing.standing (a .estimates)
+
+-- The pool with the advance to a reading of the dial under supply.
+abbrev pub poolTo : Account → ℕ → ℕ
+poolTo a reading = a .pool + advance (a .digits) (a .dial) reading
+
+-- 02, 06 and 08 alike: what a reading that closes the period works out.
+module _ (a : Account) (day reading : ℕ) (fuel : Fuel) where
+  abbrev pub madeFinal : List ℕ
+  madeFinal = finalVolumes (standingEstimates a) (poolTo a reading)
+
+  abbrev pub closingPrice : ℕ
+  closingPrice = priceOf (daysOf (startOf (a .status)) day) fuel (ofThisPeriod madeFinal)
+
+  abbrev pub closingNet : ℤ
+  closingNet = netOf (standingEstimates a) (poolTo a reading) madeFinal closingPrice
+
+  abbrev pub closedLedger : Standing
+  closedLedger = closed day closingNet (standing (a .ledger))
+
+  -- All volumes are final, so no estimate stands and the pool is 0.
+  abbrev pub afterReading : Status → Ledger → Account
+  afterReading status ledger =
+      record {
+        status = status;
+        latest = day;
+        digits = a .digits;
+        dial = reading;
+        pool = 0;
+        previous = ofThisPeriod madeFinal;
+        estimates = storedEstimates [];
+        ledger = ledger
+      }
+
+  -- A closing posts interest held.
+  abbrev pub read : Status → Work
+  read status =
+      record {
+        account = afterReading status (stored closedLedger);
+        estimated = 0;
+        volumes = madeFinal;
+        net = closingNet;
+        interest = a .ledger .held
+      }
+
+  -- A cancellation posts the interest that it brings, too, as one last item.
+  abbrev pub cancelled : Work
+  cancelled =
+      record {
+        account = afterReading Cancelled (stored (heldPosted day closedLedger));
+        estimated = 0;
+        volumes = madeFinal;
+        net = closingNet;
+        interest = a .ledger .held + closedLedger .held
+      }
+
+-- 03 and 04 alike: the period is billed on an estimate, which stands until a reading. The pool waits.
+module _ (a : Account) (day : ℕ) (fuel : Fuel) where
+  abbrev pub estimateOf : Bool → ℕ → Estimate
+  estimateOf absent volume =
+      record {
+        absent = absent;
+        days = daysOf (startOf (a .status)) day;
+        fuel = fuel;
+        volume = volume;
+        charged = priceOf (daysOf (startOf (a .status)) day) fuel volume
+      }
+
+  abbrev pub missed : Bool → ℕ → Work
+  missed absent volume =
+      record {
+        account =
+          record {
+            status = Supplied (dayAfter day);
+            latest = day;
+            digits = a .digits;
+            dial = a .dial;
+            pool = a .pool;
+            previous = volume;
+            estimates = storedEstimates (standingEstimates a ++ (estimateOf absent volume ∷ []));
+            ledger = stored (closed day (pos (estimateOf absent volume .charged)) (standing (a .ledger)))
+          };
+        estimated = volume;
+        volumes = [];
+        net = pos (estimateOf absent volume .charged);
+        interest = a .ledger .held
+      }
+
+-- 01 and 07 set the dial and begin a period. What the dial turned while stopped is not billed (H).
+abbrev pub begun : Account → ℕ → ℕ → ℕ → ℕ → Work
+begun a day reading digits start =
+    quiet
+    (record {
+      status = Supplied start;
+      latest = day;
+      digits = digits;
+      dial = reading;
+      pool = a .pool;
+      previous = a .previous;
+      estimates = a .estimates;
+      ledger = a .ledger
+    })
+
+-- 05 adds the old meter's advance to the pool and goes on with the new meter. It closes no period.
+abbrev pub exchanged : Account → ℕ → ℕ → ℕ → ℕ → Work
+exchanged a day old new digits =
+    quiet
+    (record {
+      status = a .status;
+      latest = day;
+      digits = digits;
+      dial = new;
+      pool = poolTo a old;
+      previous = a .previous;
+      estimates = a .estimates;
+      ledger = a .ledger
+    })
+
+-- The account with another ledger, and another status.
+abbrev pub withLedger : Account → ℕ → Status → Ledger → Account
+withLedger a day status ledger =
+    record {
+      status = status;
+      latest = day;
+      digits = a .digits;
+      dial = a .dial;
+      pool = a .pool;
+      previous = a .previous;
+      estimates = a .estimates;
+      ledger = ledger
+    }
+
+-- A payment: what it brings in interest is held, and on a cancelled account posted at once as one last item.
+abbrev pub isCancelled : Status → Bool
+isCancelled New = false
+isCancelled (Supplied start) = false
+isCancelled (Stopped stop) = false
+isCancelled Cancelled = true
+
+module _ (a : Account) (day yen : ℕ) where
+  abbrev pub paidLedger : Standing
+  paidLedger = paid day yen (standing (a .ledger))
+
+  abbrev pub payment : Work
+  payment =
+      record {
+        account =
+          withLedger a day (a .status) (stored (cond (isCancelled (a .status)) (heldPosted day paidLedger) paidLedger));
+        estimated = 0;
+        volumes = [];
+        net = pos 0;
+        interest = cond (isCancelled (a .status)) (paidLedger .held) 0
+      }
+
+-- A cancellation while stopped posts interest held only.
+abbrev pub stoppedCancellation : Account → ℕ → Work
+stoppedCancellation a day =
+    record {
+      account = withLedger a day Cancelled (stored (heldPosted day (standing (a .ledger))));
+      estimated = 0;
+      volumes = [];
+      net = pos 0;
+      interest = a .ledger .held
+    }
+
+-- The work of each call.
+unfoldable pub work : Account → Call → Work
+work a (Opening day reading digits) = begun a day reading digits day
+work a (Reading day reading fuel) = read a day reading fuel (Supplied (dayAfter day))
+work a (Missed day fuel) = missed a day fuel false (a .previous)
+work a (Absent day fuel) = missed a day fuel true 0
+work a (Exchange day old new digits) = exchanged a day old new digits
+work a (Disconnection day reading fuel) = read a day reading fuel (Stopped day)
+work a (Reconnection day reading digits) = begun a day reading digits (resumedStart (stopOf (a .status)) day)
+work a (Cancellation day reading fuel) = cancelled a day reading fuel
+work a (Payment day yen) = payment a day yen
+work a (StoppedCancellation day) = stoppedCancellation a day

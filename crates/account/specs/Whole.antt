@@ -1,0 +1,74 @@
+-- When an account handed in is whole: number 41 declines every other.
+use Prim.Native.Nat.{ℕ, _+_}
+use mathlib.Core.Bool.{Bool, cond, _&&_, _||_}
+use lib.Dec.{leb, eqb}
+use Rattle.lists.specs.Every.{every}
+use Rattle.meter.specs.declared.Estimate.{Estimate}
+use Rattle.ledger.specs.declared.Item.{Item}
+use Rattle.ledger.specs.declared.Ledger.{Ledger}
+use Rattle.ledger.specs.Interest.{isPrice}
+use Rattle.ledger.specs.Posting.{standing}
+use Rattle.account.specs.declared.Status.{Status}
+use Rattle.account.specs.declared.Status.the-variants.{New, Supplied, Stopped, Cancelled}
+use Rattle.account.specs.declared.Account.{Account}
+use Rattle.account.specs.Limits.{within, dayAllowed, digitsAllowed, onDial, fuelAllowed, missesAllowed, volumeAllowed, itemsAllowed, creditAllowed}
+use Rattle.account.specs.Calls.{standingEstimates}
+
+-- A new account is as made: nothing in it is above 0. Places of the arrays that hold nothing are not looked at.
+unfoldable pub asMade : Account → Bool
+asMade a =
+    eqb (a .latest) 0 &&
+    eqb (a .digits) 0 &&
+    eqb (a .dial) 0 &&
+    eqb (a .pool) 0 &&
+    eqb (a .previous) 0 &&
+    eqb (a .estimates .count) 0 &&
+    eqb (a .ledger .count) 0 &&
+    eqb (a .ledger .held) 0 &&
+    eqb (a .ledger .credit) 0
+
+-- An estimate: 1 to 36,495 days, fuel as number 6 allows, volume at most 99,999, charge at most 10^8.
+unfoldable pub wholeEstimate : Estimate → Bool
+wholeEstimate estimate =
+    within 1 36495 (estimate .days) &&
+    fuelAllowed (estimate .fuel) &&
+    volumeAllowed (estimate .volume) &&
+    leb (estimate .charged) 100000000
+
+-- An item: 1 to its amount unpaid, price items at most 10^9, interest items at most 10^12, no obligation day past the latest day, no due day past 36,524.
+unfoldable pub wholeItem : ℕ → Item → Bool
+wholeItem latest item =
+    within 1 (item .amount) (item .unpaid) &&
+    leb (item .amount) (cond (isPrice (item .kind)) 1000000000 1000000000000) &&
+    leb (item .obligation) latest &&
+    leb (item .due) 36524
+
+-- At most 72 items, interest held at most 10^12, credit as number 13 allows, and 0 while an item is open.
+unfoldable pub wholeLedger : ℕ → Ledger → Bool
+wholeLedger latest ledger =
+    itemsAllowed (ledger .count) &&
+    every (wholeItem latest) (standing ledger .open-items) &&
+    leb (ledger .held) 1000000000000 &&
+    creditAllowed (ledger .credit) &&
+    (eqb (ledger .credit) 0 || eqb (ledger .count) 0)
+
+-- The latest day is one that number 2 allows; dial, pool, volumes and estimates keep to their limits.
+unfoldable pub wholeMeter : Account → Bool
+wholeMeter a =
+    dayAllowed (a .latest) &&
+    digitsAllowed (a .digits) &&
+    onDial (a .digits) (a .dial) &&
+    volumeAllowed (a .pool) &&
+    volumeAllowed (a .previous) &&
+    missesAllowed (a .estimates .count) &&
+    every wholeEstimate (standingEstimates a)
+
+-- The period start passes the latest day by at most one, the stop day does not pass it, and nothing is held once cancelled.
+unfoldable pub wholeStatus : Status → Account → Bool
+wholeStatus New a = asMade a
+wholeStatus (Supplied start) a = leb start (a .latest + 1) && wholeMeter a && wholeLedger (a .latest) (a .ledger)
+wholeStatus (Stopped stop) a = leb stop (a .latest) && wholeMeter a && wholeLedger (a .latest) (a .ledger)
+wholeStatus Cancelled a = eqb (a .ledger .held) 0 && wholeMeter a && wholeLedger (a .latest) (a .ledger)
+
+unfoldable pub whole : Account → Bool
+whole a = wholeStatus (a .status) a

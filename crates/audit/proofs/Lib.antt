@@ -1,0 +1,3 @@
+-- The two sums hold after every list of calls.
+pub mod Entries
+pub mod Balance

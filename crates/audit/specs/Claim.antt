@@ -1,0 +1,54 @@
+-- Demand 3: what holds after every list of calls from a new account, declined ones among them.
+use Prim.Native.Nat.{ℕ, _+_}
+use mathlib.Core.Path.{_≡_}
+use mathlib.Core.Bool.{true}
+use mathlib.Core.List.{List, [], _∷_}
+use lib.ListN.{take}
+use Rattle.lists.specs.Sum.{total, sum}
+use Rattle.meter.specs.declared.Volumes.{Volumes}
+use Rattle.ledger.specs.Settling.{unpaidOf}
+use Rattle.ledger.specs.Posting.{standing}
+use Rattle.account.specs.declared.Account.{Account}
+use Rattle.account.specs.declared.Answer.{Answer}
+use Rattle.account.specs.declared.Call.{Call}
+use Rattle.account.specs.Calls.{newAccount}
+use Rattle.account.specs.Outcomes.{outcome}
+use Rattle.account.specs.Whole.{whole}
+use Rattle.audit.specs.Book.{Book, empty, enter, prices}
+
+-- A list of calls, each given the account that the one before handed back: the account and the book after it, and the answers, the latest first.
+pub record Run : Type 0 where
+  pub account : Account
+  pub book : Book
+  pub answers : List Answer
+
+abbrev pub start : Run
+start = record { account = newAccount; book = empty; answers = [] }
+
+abbrev pub step : Run → Call → Run
+step r call =
+    record {
+      account = outcome (r .account) call .account;
+      book = enter (r .book) call (outcome (r .account) call .answer .number);
+      answers = outcome (r .account) call .answer ∷ r .answers
+    }
+
+unfoldable pub run : Run → List Call → Run
+run r [] = r
+run r (call ∷ calls) = run (step r call) calls
+
+-- The n volumes of an answer.
+abbrev pub finalVolume : Answer → ℕ
+finalVolume answer = sum (take (answer .volumes .count) (answer .volumes .volumes))
+
+abbrev pub unpaidOn : Account → ℕ
+unpaidOn a = unpaidOf (standing (a .ledger) .open-items)
+
+pub record Reconciled (r : Run) : Type 0 where
+  -- final volumes = what the meters advanced under supply up to the latest real closing
+  pub volumes : total finalVolume (r .answers) ≡ r .book .metering .advanced
+  -- yen received + unpaid + interest held = prices at standing volumes + interest arisen + credit
+  pub yen : r .book .money .received + unpaidOn (r .account) + r .account .ledger .held ≡ prices (r .book .periods) + r .book .money .arisen + r .account .ledger .credit
+  pub is-whole : whole (r .account) ≡ true
+  -- a declined call leaves account and book as they are
+  pub declined : (call : Call) → (outcome (r .account) call .answer .number ≡ 0 → ⊥) → (step r call .account ≡ r .account) × (step r call .book ≡ r .book)
