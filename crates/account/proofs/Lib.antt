@@ -1,3 +1,6 @@
 -- Laws of the account.
 pub mod Tests
 pub mod Facts
+pub mod Passed
+pub mod Sound
+pub mod Nets

@@ -1,5 +1,5 @@
 -- The account's ledger and the book's money: the queue is what is left of settling all that was paid in over all that was entered. Assumes nothing.
-use mathlib.Core.Path.{_≡_, refl, ap, ap₂, sym, _∙_}
+use mathlib.Core.Path.{_≡_, refl, ap, ap₂, sym, subst, _∙_}
 use mathlib.Core.Logic.{⊎-elim}
 use mathlib.Core.Bool.{Bool, true, false, cond, false≢true}
 use mathlib.Core.List.{List, [], _∷_, _++_, map, map-append, append-nil}
@@ -27,7 +27,7 @@ use Rattle.ledger.specs.Posting
 use Rattle.ledger.specs.Posting.{Standing, standing, stored, entered, post, paid, heldPosted, chargeOf, creditOf, blank, capacity}
 use Rattle.ledger.proofs.Settling.{Once, twice-once, day-left, day-open, conserved}
 use Rattle.audit.specs.Book
-use Rattle.audit.specs.Book.{Entry, Money, enteredAs, marked, arising, aboveZero, belowZero, paidIn, settled, received, interestEntered}
+use Rattle.audit.specs.Book.{Entry, Money, enteredAs, marked, arising, aboveZero, belowZero, paidIn, settled, received, interestEntered, finished}
 use Rattle.audit.proofs.Entries.{itemsOf, FullEntry, Marks, Unmarked, arising-is, marks-sooner, marks-marked, items-marked, full-marked, amounts, amounts-marked, none-arising, marks-append}
 
 -- What the book says stands on the ledger.
@@ -208,3 +208,36 @@ yen-sum m priced kept =
     unpaid-in-full : (es : List Entry) → Every FullEntry es → unpaidOf (itemsOf es) ≡ amounts es
     unpaid-in-full [] w = refl
     unpaid-in-full (e ∷ es) w = omega (arith, w .0 .in-full, unpaid-in-full es (w .1))
+
+-- The end of a call, on an account that is cancelled and on one that is not.
+pub finished-open : (m : Money) (day : ℕ) → m .is-cancelled ≡ false → finished m day ≡ settled m day
+finished-open m day e = ap (λ c. cond c (interestEntered (settled m day) day) (settled m day)) e
+
+pub finished-cancelled : (m : Money) (day : ℕ) → m .is-cancelled ≡ true → finished m day ≡ interestEntered (settled m day) day
+finished-cancelled m day e = ap (λ c. cond c (interestEntered (settled m day) day) (settled m day)) e
+
+-- A ledger that a call leaves alone is what the book says stands after the settling of the day.
+pub quiet-balanced : (day : ℕ) {ledger : Ledger} {m : Money} {priced : ℕ} → Balanced ledger m priced → Balanced ledger (settled m day) priced
+quiet-balanced day {ledger} {m} {priced} w =
+    let same = settled-same day m (w .kept .marks) in
+    record {
+      stored-as = w .stored-as ∙ ap stored (sym same);
+      fits = subst (λ (s : Standing). length (s .open-items) ≤ capacity) (sym same) (w .fits);
+      kept = quiet-kept day m priced (w .kept)
+    }
+
+-- Where nothing waits to be entered, the end of a call on a cancelled account changes nothing that stands.
+pub nothing-waits : (day : ℕ) (m : Money) (priced : ℕ) → Kept m priced → m .unentered ≡ 0 → onLedger (interestEntered (settled m day) day) ≡ onLedger m
+nothing-waits day m priced kept none =
+    sym (entered-is day (settled m day) priced (quiet-kept day m priced kept)) ∙ ap (heldPosted day) (settled-same day m (kept .marks)) ∙ again
+  where
+    same : m .entries ++ enteredAs Interest day (m .unentered) ≡ m .entries
+    same = ap (λ n. m .entries ++ enteredAs Interest day n) none ∙ append-nil (m .entries)
+    again : heldPosted day (onLedger m) ≡ onLedger m
+    again =
+        entered-is day m priced kept ∙
+        (λ i. record {
+          open-items = settle 0 (paidIn m) (itemsOf (same i)) .open-items;
+          credit = settle 0 (paidIn m) (itemsOf (same i)) .left;
+          held = sym none i
+        })

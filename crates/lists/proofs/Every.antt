@@ -1,7 +1,7 @@
 -- What holds of every element of a list. Assumes nothing.
 use mathlib.Core.Path.{_≡_, refl}
 use mathlib.Core.Bool.{Bool, true, and-eq-true-iff}
-use mathlib.Core.List.{List, [], _∷_, _++_}
+use mathlib.Core.List.{List, [], _∷_, _++_, reverse, reverse-cons}
 use Prim.Native.Nat.{ℕ, zero, suc, _<_}
 use native.Mathlib.Nat.{not-suc-le-zero, le-of-suc-le-suc}
 use lib.ListN.{length, getD}
@@ -33,3 +33,7 @@ module _ {A : Type 0} (test : A → Bool) where
   pub true-every : (xs : List A) → Every (λ x. test x ≡ true) xs → every test xs ≡ true
   true-every [] e = refl
   true-every (x ∷ xs) e = and-eq-true-iff (test x) (every test xs) .1 (e .0, true-every xs (e .1))
+
+pub every-reverse : {A : Type 0} (P : A → Type 0) (xs : List A) → Every P xs → Every P (reverse xs)
+every-reverse P [] e = tt
+every-reverse P (x ∷ xs) e = rw (reverse-cons x xs) (every-append P (reverse xs) (x ∷ []) (every-reverse P xs (e .1)) (e .0, tt))

@@ -7,6 +7,8 @@ use native.Mathlib.Omega.{arith}
 use lib.ListN.{length, getD, take}
 use lib.Seq.{take-suc}
 use Rattle.lists.specs.Sum.{total}
+use Rattle.lists.specs.Every.{Every}
+use Rattle.lists.proofs.Every.{every-map}
 
 module _ {A : Type 0} (f : A → ℕ) where
   pub total-append : (xs ys : List A) → total f (xs ++ ys) ≡ total f xs + total f ys
@@ -42,3 +44,9 @@ module _ {A : Type 0} (f : A → ℕ) where
 pub total-map : {A B : Type 0} (f : B → ℕ) (g : A → B) (xs : List A) → total f (map g xs) ≡ total (λ x. f (g x)) xs
 total-map f g [] = refl
 total-map f g (x ∷ xs) = omega (arith, total-map f g xs)
+
+-- no element is above the sum
+pub each-at-most : (xs : List ℕ) → Every (λ x. x ≤ total (λ n. n) xs) xs
+each-at-most [] = tt
+each-at-most (x ∷ xs) =
+    (omega arith, every-map (λ y. y ≤ total (λ n. n) xs) (λ y. y ≤ x + total (λ n. n) xs) (λ y h. omega arith) xs (each-at-most xs))

@@ -2,3 +2,4 @@
 pub mod Dial
 pub mod Sharing
 pub mod Walk
+pub mod Absence
