@@ -2,10 +2,9 @@
 use mathlib.Core.Path.{_≡_, refl}
 use mathlib.Core.Logic.{_⊎_}
 use mathlib.Core.Bool.{Bool, true, false, cond, _&&_, _||_}
-use mathlib.Core.List.{List, []}
 use Prim.Native.Nat.{ℕ, _+_, _%_, _≤_, _<_}
 use native.Mathlib.Omega.{arith}
-use lib.Dec.{leb, ltb, eqb}
+use lib.Dec.{leb, eqb}
 use borrow.Author.Tests.{leb-true, le-leb, ltb-true, lt-ltb, eqb-true, eq-eqb}
 use Rattle.lists.specs.Every.{every, Every}
 use Rattle.lists.proofs.Every.{every-true, true-every, every-map}
@@ -29,7 +28,7 @@ pub fuel-within : (fuel : Fuel) → fuelAllowed fuel ≡ true → WithinFuel fue
 fuel-within fuel e =
     record {
       lng-within = price (fuel .lng) (and-left (priceAllowed (fuel .lng)) (priceAllowed (fuel .propane)) e);
-      propane-within = price (fuel .propane) (and-right (priceAllowed (fuel .lng)) (priceAllowed (fuel .propane)) e)
+      propane-within = price (fuel .propane) (and-right (priceAllowed (fuel .lng)) (priceAllowed (fuel .propane)) e);
     }
   where
     price : (n : ℕ) → priceAllowed n ≡ true → n ≤ 300000
@@ -56,7 +55,7 @@ estimate-facts estimate e =
       days-most = within-high 1 36495 (estimate .days) (and-left days fuel two);
       fuel-allowed = and-right days fuel two;
       volume-most = leb-true (estimate .volume) 99999 (and-right (days && fuel) volume three);
-      charged-most = leb-true (estimate .charged) 100000000 (and-right (days && fuel && volume) (leb (estimate .charged) 100000000) e)
+      charged-most = leb-true (estimate .charged) 100000000 (and-right (days && fuel && volume) (leb (estimate .charged) 100000000) e);
     }
 
 pub estimate-whole : (estimate : Estimate) → EstimateFacts estimate → wholeEstimate estimate ≡ true
@@ -92,7 +91,7 @@ item-facts latest item e =
       price-most = λ p. rw p at bound;
       amount-most = either (isPrice (item .kind)) bound;
       obligation-most = leb-true (item .obligation) latest (and-right (unpaid && amount) obligation three);
-      due-most = leb-true (item .due) 36524 (and-right (unpaid && amount && obligation) (leb (item .due) 36524) e)
+      due-most = leb-true (item .due) 36524 (and-right (unpaid && amount && obligation) (leb (item .due) 36524) e);
     }
   where
     either : (b : Bool) → item .amount ≤ cond b 1000000000 1000000000000 → item .amount ≤ 1000000000000
@@ -136,7 +135,7 @@ ledger-facts latest ledger e =
       items = every-map (λ item. wholeItem latest item ≡ true) (ItemFacts latest) (item-facts latest) (standing ledger .open-items) (every-true (wholeItem latest) (standing ledger .open-items) (and-right count items two));
       held-most = leb-true (ledger .held) 1000000000000 (and-right (count && items) held three);
       credit-most = leb-true (ledger .credit) 999999999 (and-right (count && items && held) credit four);
-      credit-or-none = either-zero (ledger .credit) (ledger .count) (and-right (count && items && held && credit) free e)
+      credit-or-none = either-zero (ledger .credit) (ledger .count) (and-right (count && items && held && credit) free e);
     }
 
 pub ledger-whole : (latest : ℕ) (ledger : Ledger) → LedgerFacts latest ledger → wholeLedger latest ledger ≡ true
@@ -186,7 +185,7 @@ meter-facts a e =
       misses-most = leb-true (a .estimates .count) 6 (and-right (day && digits && dial && pool && previous) misses six);
       estimates =
           every-map (λ x. wholeEstimate x ≡ true) EstimateFacts estimate-facts (standingEstimates a)
-          (every-true wholeEstimate (standingEstimates a) (and-right (day && digits && dial && pool && previous && misses) estimates e))
+          (every-true wholeEstimate (standingEstimates a) (and-right (day && digits && dial && pool && previous && misses) estimates e));
     }
 
 pub meter-whole : (a : Account) → MeterFacts a → wholeMeter a ≡ true
@@ -283,5 +282,5 @@ made-facts a e =
       misses-none = eqb-true (a .estimates .count) 0 (and-right (latest && digits && dial && pool && previous) misses six);
       items-none = eqb-true (a .ledger .count) 0 (and-right (latest && digits && dial && pool && previous && misses) items seven);
       held-none = eqb-true (a .ledger .held) 0 (and-right (latest && digits && dial && pool && previous && misses && items) held eight);
-      credit-none = eqb-true (a .ledger .credit) 0 (and-right (latest && digits && dial && pool && previous && misses && items && held) credit e)
+      credit-none = eqb-true (a .ledger .credit) 0 (and-right (latest && digits && dial && pool && previous && misses && items && held) credit e);
     }

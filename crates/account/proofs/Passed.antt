@@ -1,17 +1,16 @@
 -- What an accepted call has passed. Assumes nothing.
 use mathlib.Core.Path.{_≡_, refl}
-use mathlib.Core.Bool.{Bool, true, false, cond, not, _&&_}
-use Prim.Native.Nat.{ℕ, zero, suc, _+_, _≤_, _<_}
+use mathlib.Core.Bool.{Bool, true, false, _&&_}
+use Prim.Native.Nat.{ℕ, suc, _+_, _≤_, _<_}
 use native.Mathlib.Nat.{suc-ne-zero}
 use native.Mathlib.Omega.{arith}
 use lib.Dec.{leb, ltb}
 use borrow.Author.Tests.{leb-true, ltb-true, ltb-false}
 use Rattle.tariff.specs.declared.Fuel.{Fuel}
 use Rattle.meter.specs.Dial.{span, advance, withinHalf, Digits}
-use Rattle.ledger.specs.declared.Ledger.{Ledger}
 use Rattle.account.specs.declared.Account.{Account}
 use Rattle.account.specs.declared.Call.{Call}
-use Rattle.account.specs.Limits.{within, dayAllowed, digitsAllowed, onDial, fuelAllowed, missesAllowed, volumeAllowed, paymentAllowed, itemsAllowed, creditAllowed}
+use Rattle.account.specs.Limits.{dayAllowed, digitsAllowed, onDial, fuelAllowed, missesAllowed, volumeAllowed, itemsAllowed, creditAllowed}
 use Rattle.account.specs.Closing.{startOf, daysOf}
 use Rattle.account.specs.Calls.{work, poolTo}
 use Rattle.account.specs.Whole.{whole}
@@ -83,7 +82,7 @@ reading-passed a day reading fuel e =
       fuel-allowed = six .0;
       some-day = ltb-true 0 (daysOf (startOf (a .status)) day) (seven .0);
       within-half = last .half;
-      pool-most = last .pool
+      pool-most = last .pool;
     }
 
 -- 03 and 04.
@@ -108,7 +107,7 @@ miss-passed a day fuel e =
       not-before = b .not-before;
       fuel-allowed = six .0;
       some-day = ltb-true 0 (daysOf (startOf (a .status)) day) (seven .0);
-      misses-most = leb-true (a .estimates .count + 1) 6 (eight .0)
+      misses-most = leb-true (a .estimates .count + 1) 6 (eight .0);
     }
 
 -- 01 and 07.
@@ -129,7 +128,7 @@ dial-passed allowed a day reading digits e =
       day-most = b .day-most;
       not-before = b .not-before;
       digits-within = (within-low 4 5 digits (four .0), within-high 4 5 digits (four .0));
-      on-dial = ltb-true reading (span digits) (five .0)
+      on-dial = ltb-true reading (span digits) (five .0);
     }
 
 -- 05.
@@ -157,7 +156,7 @@ exchange-passed a day old new digits e =
       old-on-dial = ltb-true old (span (a .digits)) (and-left (onDial (a .digits) old) (onDial digits new) (five .0));
       new-on-dial = ltb-true new (span digits) (and-right (onDial (a .digits) old) (onDial digits new) (five .0));
       within-half = last .half;
-      pool-most = last .pool
+      pool-most = last .pool;
     }
 
 -- 41 and 12 and 13, of any call.
@@ -179,5 +178,5 @@ accepted a call e =
       is-whole = one .0;
       first-passed = both .0;
       items-most = leb-true (ledger .count) 72 (twelve .0);
-      credit-most = leb-true (ledger .credit) 999999999 (thirteen .0)
+      credit-most = leb-true (ledger .credit) 999999999 (thirteen .0);
     }

@@ -1,10 +1,10 @@
 -- What stands on a ledger stays whole through postings. Assumes nothing.
-use mathlib.Core.Path.{_≡_, refl, ap, sym, subst, _∙_}
+use mathlib.Core.Path.{_≡_, ap, sym, subst}
 use mathlib.Core.Logic.{_⊎_, inl, inr, ⊎-elim}
-use mathlib.Core.Bool.{Bool, true, false, false≢true}
-use mathlib.Core.List.{List, [], _∷_, _++_}
-use Prim.Native.Nat.{ℕ, suc, _+_, _-_, _*_, _≤_, _<_}
-use native.Mathlib.Nat.{le-refl, le-trans, eq-zero-or-pos, add-mul}
+use mathlib.Core.Bool.{true, false≢true}
+use mathlib.Core.List.{List, [], _++_}
+use Prim.Native.Nat.{ℕ, _+_, _*_, _≤_, _<_}
+use native.Mathlib.Nat.{le-refl, le-trans, eq-zero-or-pos}
 use native.Mathlib.Omega.{arith}
 use lib.IntN.{ℤ}
 use lib.ListN.{length, length-append}
@@ -13,12 +13,11 @@ use Rattle.lists.proofs.Every.{every-append, every-map}
 use Rattle.ledger.specs.declared.Kind.{Kind}
 use Rattle.ledger.specs.declared.Kind.the-variants.{Interest, Price}
 use Rattle.ledger.specs.declared.Item.{Item}
-use Rattle.ledger.specs.declared.Ledger.{Ledger}
 use Rattle.ledger.specs.Interest.{isPrice, interestOn}
-use Rattle.ledger.specs.Settling.{reduced, settle}
-use Rattle.ledger.specs.Posting.{Standing, newItem, entered, post, noneHeld, closed, paid, heldPosted, chargeOf, creditOf, capacity, standing, stored, Ready}
+use Rattle.ledger.specs.Settling.{reduced}
+use Rattle.ledger.specs.Posting.{Standing, newItem, entered, post, noneHeld, closed, paid, heldPosted, chargeOf, creditOf, standing, stored}
 use Rattle.ledger.proofs.Interest.{interest-most}
-use Rattle.ledger.proofs.Settling.{settle-keeps, arisen-most, left-or-none, open-most}
+use Rattle.ledger.proofs.Settling.{settle-keeps, arisen-most, left-or-none}
 use Rattle.ledger.proofs.Posting.{entered-none, entered-some, entered-count}
 use Rattle.account.proofs.Facts.{ItemFacts, LedgerFacts}
 
@@ -30,7 +29,7 @@ item-later latest day h item w =
       price-most = w .price-most;
       amount-most = w .amount-most;
       obligation-most = le-trans (w .obligation-most) h;
-      due-most = w .due-most
+      due-most = w .due-most;
     }
 
 item-reduced : (day : ℕ) (item : Item) (money : ℕ) → ItemFacts day item → money < item .unpaid → ItemFacts day (reduced item money)
@@ -41,7 +40,7 @@ item-reduced day item money w h =
       price-most = w .price-most;
       amount-most = w .amount-most;
       obligation-most = w .obligation-most;
-      due-most = w .due-most
+      due-most = w .due-most;
     }
 
 -- What is posted on a day that calls take.
@@ -62,7 +61,7 @@ unfolding post
 post-sound day money items s old new =
     record {
       items = settle-keeps (ItemFacts day) (item-reduced day) day (s .credit + money) (s .open-items ++ items) (every-append (ItemFacts day) (s .open-items) items old new);
-      settled = left-or-none day (s .credit + money) (s .open-items ++ items)
+      settled = left-or-none day (s .credit + money) (s .open-items ++ items);
     }
 
 -- Interest held is bounded with the places of the open items: each item settled brings at most 10^10, and frees its place.
@@ -73,10 +72,11 @@ pub post-load : (day money : ℕ) (items : List Item) (s : Standing) → day ≤
     → load (post day money items s) ≤ load s + length items * 10000000000
 unfolding post
 post-load day money items s h old new =
-    omega
-    (arith,
-    arisen-most 10000000000 day (s .credit + money) (s .open-items ++ items) (every-map (ItemFacts day) (λ item. interestOn item day ≤ 10000000000) (λ item w. interest-most item day (w .price-most) h) (s .open-items ++ items) (every-append (ItemFacts day) (s .open-items) items old new)),
-    length-append (s .open-items) items)
+    omega (
+      arith,
+      arisen-most 10000000000 day (s .credit + money) (s .open-items ++ items) (every-map (ItemFacts day) (λ item. interestOn item day ≤ 10000000000) (λ item w. interest-most item day (w .price-most) h) (s .open-items ++ items) (every-append (ItemFacts day) (s .open-items) items old new)),
+      length-append (s .open-items) items,
+    )
 
 pub record Bounded (day : ℕ) (s : Standing) : Type 0 where
   pub sound : Sound day s
@@ -95,12 +95,13 @@ module _ (day : ℕ) (s : Standing) (h : day ≤ 36494) (w : Bounded day s) wher
       record {
         sound = post-sound day (creditOf net) (entered Interest day (s .held) ++ entered Price day (chargeOf net)) (noneHeld s) (w .sound .items) posted;
         load-most =
-            omega
-            (arith,
-            post-load day (creditOf net) (entered Interest day (s .held) ++ entered Price day (chargeOf net)) (noneHeld s) h (w .sound .items) posted,
-            length-append (entered Interest day (s .held)) (entered Price day (chargeOf net)),
-            entered-count Interest day (s .held),
-            entered-count Price day (chargeOf net))
+            omega (
+              arith,
+              post-load day (creditOf net) (entered Interest day (s .held) ++ entered Price day (chargeOf net)) (noneHeld s) h (w .sound .items) posted,
+              length-append (entered Interest day (s .held)) (entered Price day (chargeOf net)),
+              entered-count Interest day (s .held),
+              entered-count Price day (chargeOf net),
+            );
       }
     where
       posted : Every (ItemFacts day) (entered Interest day (s .held) ++ entered Price day (chargeOf net))
@@ -111,7 +112,7 @@ module _ (day : ℕ) (s : Standing) (h : day ≤ 36494) (w : Bounded day s) wher
   paid-bounded yen =
       record {
         sound = post-sound day yen [] s (w .sound .items) tt;
-        load-most = omega (arith, post-load day yen [] s h (w .sound .items) tt, w .load-most)
+        load-most = omega (arith, post-load day yen [] s h (w .sound .items) tt, w .load-most);
       }
 
   pub posted-sound : Sound day (heldPosted day s)
@@ -126,5 +127,5 @@ stored-facts day s w places credit held same =
       items = subst (λ (x : Standing). Every (ItemFacts day) (x .open-items)) (sym same) (w .items);
       held-most = held;
       credit-most = credit;
-      credit-or-none = ⊎-elim inl (λ (e : s .open-items ≡ []). inr (ap length e)) (w .settled)
+      credit-or-none = ⊎-elim inl (λ (e : s .open-items ≡ []). inr (ap length e)) (w .settled);
     }

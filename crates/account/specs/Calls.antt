@@ -1,12 +1,11 @@
 -- The ten calls: what each makes of an account, and what its answer says, before the limits of numbers 12 and 13.
-use Prim.Native.Nat.{ℕ, _+_}
 use mathlib.Core.Bool.{Bool, true, false, cond}
 use mathlib.Core.List.{List, [], _∷_, _++_}
+use Prim.Native.Nat.{ℕ, _+_}
 use lib.IntN.{ℤ, pos}
 use Rattle.tariff.specs.declared.Fuel.{Fuel}
 use Rattle.tariff.specs.Price.{priceOf}
 use Rattle.meter.specs.declared.Estimate.{Estimate}
-use Rattle.meter.specs.declared.Estimates.{Estimates}
 use Rattle.meter.specs.Dial.{advance}
 use Rattle.meter.specs.Sharing as Sharing
 use Rattle.meter.specs.Sharing.{finalVolumes}
@@ -29,7 +28,7 @@ newAccount =
       pool = 0;
       previous = 0;
       estimates = storedEstimates [];
-      ledger = stored (record { open-items = []; credit = 0; held = 0 })
+      ledger = stored (record { open-items = []; credit = 0; held = 0 });
     }
 
 -- What a call makes: the account after it, the estimated volume, the volumes made final, the net, and interest posted.
@@ -76,7 +75,7 @@ module _ (a : Account) (day reading : ℕ) (fuel : Fuel) where
         pool = 0;
         previous = ofThisPeriod madeFinal;
         estimates = storedEstimates [];
-        ledger = ledger
+        ledger = ledger;
       }
 
   -- A closing posts interest held.
@@ -87,7 +86,7 @@ module _ (a : Account) (day reading : ℕ) (fuel : Fuel) where
         estimated = 0;
         volumes = madeFinal;
         net = closingNet;
-        interest = a .ledger .held
+        interest = a .ledger .held;
       }
 
   -- A cancellation posts the interest that it brings, too, as one last item.
@@ -98,7 +97,7 @@ module _ (a : Account) (day reading : ℕ) (fuel : Fuel) where
         estimated = 0;
         volumes = madeFinal;
         net = closingNet;
-        interest = a .ledger .held + closedLedger .held
+        interest = a .ledger .held + closedLedger .held;
       }
 
 -- 03 and 04 alike: the period is billed on an estimate, which stands until a reading. The pool waits.
@@ -110,27 +109,27 @@ module _ (a : Account) (day : ℕ) (fuel : Fuel) where
         days = daysOf (startOf (a .status)) day;
         fuel = fuel;
         volume = volume;
-        charged = priceOf (daysOf (startOf (a .status)) day) fuel volume
+        charged = priceOf (daysOf (startOf (a .status)) day) fuel volume;
       }
 
   abbrev pub missed : Bool → ℕ → Work
   missed absent volume =
       record {
         account =
-          record {
-            status = Supplied (dayAfter day);
-            latest = day;
-            digits = a .digits;
-            dial = a .dial;
-            pool = a .pool;
-            previous = volume;
-            estimates = storedEstimates (standingEstimates a ++ (estimateOf absent volume ∷ []));
-            ledger = stored (closed day (pos (estimateOf absent volume .charged)) (standing (a .ledger)))
-          };
+            record {
+              status = Supplied (dayAfter day);
+              latest = day;
+              digits = a .digits;
+              dial = a .dial;
+              pool = a .pool;
+              previous = volume;
+              estimates = storedEstimates (standingEstimates a ++ (estimateOf absent volume ∷ []));
+              ledger = stored (closed day (pos (estimateOf absent volume .charged)) (standing (a .ledger)));
+            };
         estimated = volume;
         volumes = [];
         net = pos (estimateOf absent volume .charged);
-        interest = a .ledger .held
+        interest = a .ledger .held;
       }
 
 -- 01 and 07 set the dial and begin a period. What the dial turned while stopped is not billed (H).
@@ -145,7 +144,7 @@ begun a day reading digits start =
       pool = a .pool;
       previous = a .previous;
       estimates = a .estimates;
-      ledger = a .ledger
+      ledger = a .ledger;
     })
 
 -- 05 adds the old meter's advance to the pool and goes on with the new meter. It closes no period.
@@ -160,7 +159,7 @@ exchanged a day old new digits =
       pool = poolTo a old;
       previous = a .previous;
       estimates = a .estimates;
-      ledger = a .ledger
+      ledger = a .ledger;
     })
 
 -- The account with another ledger, and another status.
@@ -174,7 +173,7 @@ withLedger a day status ledger =
       pool = a .pool;
       previous = a .previous;
       estimates = a .estimates;
-      ledger = ledger
+      ledger = ledger;
     }
 
 -- A payment: what it brings in interest is held, and on a cancelled account posted at once as one last item.
@@ -192,11 +191,11 @@ module _ (a : Account) (day yen : ℕ) where
   payment =
       record {
         account =
-          withLedger a day (a .status) (stored (cond (isCancelled (a .status)) (heldPosted day paidLedger) paidLedger));
+            withLedger a day (a .status) (stored (cond (isCancelled (a .status)) (heldPosted day paidLedger) paidLedger));
         estimated = 0;
         volumes = [];
         net = pos 0;
-        interest = cond (isCancelled (a .status)) (paidLedger .held) 0
+        interest = cond (isCancelled (a .status)) (paidLedger .held) 0;
       }
 
 -- A cancellation while stopped posts interest held only.
@@ -207,7 +206,7 @@ stoppedCancellation a day =
       estimated = 0;
       volumes = [];
       net = pos 0;
-      interest = a .ledger .held
+      interest = a .ledger .held;
     }
 
 -- The work of each call.

@@ -1,6 +1,6 @@
 -- The limits that calls and accounts keep to: the tests behind the numbers of "When a call is declined".
-use Prim.Native.Nat.{ℕ, _%_}
 use mathlib.Core.Bool.{Bool, _&&_}
+use Prim.Native.Nat.{ℕ, _%_}
 use lib.Dec.{leb, ltb, eqb}
 use Rattle.tariff.specs.declared.Fuel.{Fuel}
 use Rattle.meter.specs.Dial.{span}

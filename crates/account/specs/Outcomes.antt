@@ -1,14 +1,13 @@
 -- What a call hands back: the account and the answer.
-use Prim.Native.Nat.{ℕ}
 use mathlib.Core.Bool.{cond}
 use mathlib.Core.List.{[]}
+use Prim.Native.Nat.{ℕ}
 use lib.Dec.{eqb}
 use lib.IntN.{pos}
 use Rattle.meter.specs.Sharing.{volumesOf}
 use Rattle.ledger.specs.Settling.{unpaidOf}
 use Rattle.ledger.specs.Posting.{standing}
 use Rattle.account.specs.declared.Account.{Account}
-use Rattle.account.specs.declared.Answer.{Answer}
 use Rattle.account.specs.declared.Outcome.{Outcome}
 use Rattle.account.specs.declared.Call.{Call}
 use Rattle.account.specs.Calls.{Work, work}
@@ -19,7 +18,7 @@ abbrev pub declined : Account → ℕ → Outcome
 declined a number =
     record {
       account = a;
-      answer = record { number = number; estimated = 0; volumes = volumesOf []; net = pos 0; interest = 0; unpaid = 0; credit = 0 }
+      answer = record { number = number; estimated = 0; volumes = volumesOf []; net = pos 0; interest = 0; unpaid = 0; credit = 0 };
     }
 
 -- An accepted call: number 0, what it worked out, and what is unpaid over all open items and the credit after it.
@@ -28,15 +27,15 @@ accepted w =
     record {
       account = w .account;
       answer =
-        record {
-          number = 0;
-          estimated = w .estimated;
-          volumes = volumesOf (w .volumes);
-          net = w .net;
-          interest = w .interest;
-          unpaid = unpaidOf (standing (w .account .ledger) .open-items);
-          credit = w .account .ledger .credit
-        }
+          record {
+            number = 0;
+            estimated = w .estimated;
+            volumes = volumesOf (w .volumes);
+            net = w .net;
+            interest = w .interest;
+            unpaid = unpaidOf (standing (w .account .ledger) .open-items);
+            credit = w .account .ledger .credit;
+          };
     }
 
 unfoldable pub outcome : Account → Call → Outcome

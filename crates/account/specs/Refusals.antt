@@ -1,6 +1,6 @@
 -- When a call is declined: the causes in the paper's order. 0 stands for none.
-use Prim.Native.Nat.{ℕ, _+_}
 use mathlib.Core.Bool.{Bool, true, false, cond, _&&_, not}
+use Prim.Native.Nat.{ℕ, _+_}
 use lib.Dec.{leb, ltb}
 use Rattle.tariff.specs.declared.Fuel.{Fuel}
 use Rattle.meter.specs.Dial.{advance, withinHalf}

@@ -1,6 +1,6 @@
 -- When an account handed in is whole: number 41 declines every other.
-use Prim.Native.Nat.{ℕ, _+_}
 use mathlib.Core.Bool.{Bool, cond, _&&_, _||_}
+use Prim.Native.Nat.{ℕ, _+_}
 use lib.Dec.{leb, eqb}
 use Rattle.lists.specs.Every.{every}
 use Rattle.meter.specs.declared.Estimate.{Estimate}

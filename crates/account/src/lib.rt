@@ -2,7 +2,9 @@
 ghost use mathlib.Core.Path.{_≡_};
 ghost use Rattle.account.specs.Calls.{newAccount};
 use ledger::Ledger;
-use meter::{Estimate, Estimates, Volumes};
+use meter::Estimate;
+use meter::Estimates;
+use meter::Volumes;
 use tariff::Fuel;
 
 // `start` is the first day of the period that runs, `stop` the day of the stop.
@@ -29,25 +31,61 @@ pub struct Account {
 
 pub enum Call {
     // 01
-    Opening { day: u16, reading: u32, digits: u8 },
+    Opening {
+        day: u16,
+        reading: u32,
+        digits: u8,
+    },
     // 02
-    Reading { day: u16, reading: u32, fuel: Fuel },
+    Reading {
+        day: u16,
+        reading: u32,
+        fuel: Fuel,
+    },
     // 03
-    Missed { day: u16, fuel: Fuel },
+    Missed {
+        day: u16,
+        fuel: Fuel,
+    },
     // 04
-    Absent { day: u16, fuel: Fuel },
+    Absent {
+        day: u16,
+        fuel: Fuel,
+    },
     // 05
-    Exchange { day: u16, old: u32, new: u32, digits: u8 },
+    Exchange {
+        day: u16,
+        old: u32,
+        new: u32,
+        digits: u8,
+    },
     // 06
-    Disconnection { day: u16, reading: u32, fuel: Fuel },
+    Disconnection {
+        day: u16,
+        reading: u32,
+        fuel: Fuel,
+    },
     // 07
-    Reconnection { day: u16, reading: u32, digits: u8 },
+    Reconnection {
+        day: u16,
+        reading: u32,
+        digits: u8,
+    },
     // 08
-    Cancellation { day: u16, reading: u32, fuel: Fuel },
+    Cancellation {
+        day: u16,
+        reading: u32,
+        fuel: Fuel,
+    },
     // 09
-    Payment { day: u16, yen: u32 },
+    Payment {
+        day: u16,
+        yen: u32,
+    },
     // 0a
-    StoppedCancellation { day: u16 },
+    StoppedCancellation {
+        day: u16,
+    },
 }
 
 // `number` is 0 where the call was accepted; where it was declined it says why, and every other field is 0.

@@ -2,24 +2,21 @@
 use mathlib.Core.Path.{_≡_, refl, ap, ap₂, sym, subst, _∙_}
 use mathlib.Core.Logic.{⊎-elim}
 use mathlib.Core.Bool.{Bool, true, false, cond, false≢true}
-use mathlib.Core.List.{List, [], _∷_, _++_, map, map-append, append-nil}
-use Prim.Native.Nat.{ℕ, suc, _+_, _-_, _≤_, _<_}
-use native.Mathlib.Nat.{zero-add, add-zero, le-refl, le-add-right, eq-zero-or-pos}
+use mathlib.Core.List.{List, [], _∷_, _++_, map-append, append-nil}
+use Prim.Native.Nat.{ℕ, _+_, _≤_, _<_}
+use native.Mathlib.Nat.{zero-add, add-zero, eq-zero-or-pos}
 use native.Mathlib.Omega.{arith}
 use lib.Dec.{ltb}
 use lib.IntN.{ℤ, pos, negsuc}
 use lib.ListN.{length, take}
 use lib.Seq.{take-all}
 use borrow.Author.Tests.{lt-ltb}
-use Rattle.lists.specs.Sum.{total}
-use Rattle.lists.specs.Pad.{pad}
 use Rattle.lists.specs.Every.{Every}
 use Rattle.lists.proofs.Sum.{total-append}
 use Rattle.lists.proofs.Pad.{take-pad}
 use Rattle.lists.proofs.Every.{every-append}
 use Rattle.ledger.specs.declared.Kind.{Kind}
 use Rattle.ledger.specs.declared.Kind.the-variants.{Interest, Price}
-use Rattle.ledger.specs.declared.Item.{Item}
 use Rattle.ledger.specs.declared.Ledger.{Ledger}
 use Rattle.ledger.specs.Interest.{isPrice}
 use Rattle.ledger.specs.Settling.{settle, unpaidOf}
@@ -36,7 +33,7 @@ onLedger m =
     record {
       open-items = settle 0 (paidIn m) (itemsOf (m .entries)) .open-items;
       credit = settle 0 (paidIn m) (itemsOf (m .entries)) .left;
-      held = m .unentered
+      held = m .unentered;
     }
 
 -- What the book keeps to, whatever stands on the account.
@@ -71,12 +68,16 @@ posted-is day more behind m after same-entries same-paid full fullBehind marks u
   where
     items : itemsOf (m .entries) ++ itemsOf behind ≡ itemsOf (marked (paidIn after) 0 (after .entries))
     items = sym (items-marked (paidIn after) 0 (after .entries) ∙ ap itemsOf same-entries ∙ map-append (λ e. e .item) (m .entries) behind)
+
     once : Once 0 day (paidIn m) more (itemsOf (m .entries)) (itemsOf behind)
     once = twice-once 0 day (paidIn m) more (itemsOf (m .entries)) (itemsOf behind)
+
     opens : settle day (onLedger m .credit + more) (onLedger m .open-items ++ itemsOf behind) .open-items ≡ settle 0 (paidIn after) (itemsOf (marked (paidIn after) 0 (after .entries))) .open-items
     opens = once .same-open ∙ day-open day 0 (paidIn m + more) (itemsOf (m .entries) ++ itemsOf behind) ∙ ap₂ (λ p xs. settle 0 p xs .open-items) (sym same-paid) items
+
     left : settle day (onLedger m .credit + more) (onLedger m .open-items ++ itemsOf behind) .left ≡ settle 0 (paidIn after) (itemsOf (marked (paidIn after) 0 (after .entries))) .left
     left = once .same-left ∙ day-left day 0 (paidIn m + more) (itemsOf (m .entries) ++ itemsOf behind) ∙ ap₂ (λ p xs. settle 0 p xs .left) (sym same-paid) items
+
     held : after .unentered + settle day (onLedger m .credit + more) (onLedger m .open-items ++ itemsOf behind) .arisen ≡ after .unentered + arising day (paidIn after) 0 (after .entries)
     held =
         ap (λ n. after .unentered + n)
@@ -117,7 +118,7 @@ kept-settled day more priced behind m after same-entries same-paid full fullBehi
     record {
       full = full-marked (paidIn after) 0 (after .entries) (rw same-entries (every-append FullEntry (m .entries) behind full fullBehind));
       marks = marks-marked (paidIn after) 0 (after .entries) (rw same-entries (marks-sooner (paidIn m) (paidIn after) 0 (m .entries) behind (omega (arith, same-paid)) marks unmarked));
-      sums = rw (amounts-marked (paidIn after) 0 (after .entries)) (omega (arith, sums))
+      sums = rw (amounts-marked (paidIn after) 0 (after .entries)) (omega (arith, sums));
     }
 
 -- Where the marks are up to date the settling of a day changes nothing that stands.
@@ -192,7 +193,7 @@ module _ (day : ℕ) (m : Money) (priced : ℕ) (kept : Kept m priced) where
       record {
         full = every-append FullEntry (m .entries) (enteredAs Interest day (m .unentered)) (kept .full) (full-entered Interest day (m .unentered));
         marks = marks-after;
-        sums = rw (total-append (λ x. x .item .amount) (m .entries) (enteredAs Interest day (m .unentered)), amounts-entered Interest day (m .unentered)) (omega (arith, kept .sums))
+        sums = rw (total-append (λ x. x .item .amount) (m .entries) (enteredAs Interest day (m .unentered)), amounts-entered Interest day (m .unentered)) (omega (arith, kept .sums));
       }
 
 -- A call that enters and pays nothing.
@@ -223,7 +224,7 @@ quiet-balanced day {ledger} {m} {priced} w =
     record {
       stored-as = w .stored-as ∙ ap stored (sym same);
       fits = subst (λ (s : Standing). length (s .open-items) ≤ capacity) (sym same) (w .fits);
-      kept = quiet-kept day m priced (w .kept)
+      kept = quiet-kept day m priced (w .kept);
     }
 
 -- Where nothing waits to be entered, the end of a call on a cancelled account changes nothing that stands.
@@ -233,11 +234,12 @@ nothing-waits day m priced kept none =
   where
     same : m .entries ++ enteredAs Interest day (m .unentered) ≡ m .entries
     same = ap (λ n. m .entries ++ enteredAs Interest day n) none ∙ append-nil (m .entries)
+
     again : heldPosted day (onLedger m) ≡ onLedger m
     again =
         entered-is day m priced kept ∙
         (λ i. record {
           open-items = settle 0 (paidIn m) (itemsOf (same i)) .open-items;
           credit = settle 0 (paidIn m) (itemsOf (same i)) .left;
-          held = sym none i
+          held = sym none i;
         })

@@ -2,7 +2,7 @@
 use mathlib.Core.Path.{_≡_, refl, ap, sym, _∙_}
 use mathlib.Core.Bool.{Bool, true, false, cond, not, _&&_, _||_, false≢true}
 use mathlib.Core.List.{List, [], _∷_, _++_, map, map-append}
-use Prim.Native.Nat.{ℕ, suc, _+_, _-_, _≤_, _<_}
+use Prim.Native.Nat.{ℕ, _+_, _-_, _≤_, _<_}
 use native.Mathlib.Nat.{zero-add, add-zero, add-assoc, le-trans}
 use native.Mathlib.Omega.{arith}
 use lib.Dec.{leb}
@@ -10,10 +10,9 @@ use borrow.Author.Tests.{leb-true, leb-false, le-leb, lt-leb}
 use Rattle.lists.specs.Sum.{total}
 use Rattle.lists.specs.Every.{Every}
 use Rattle.lists.proofs.Every.{every-append}
-use Rattle.ledger.specs.declared.Kind.{Kind}
 use Rattle.ledger.specs.declared.Item.{Item}
 use Rattle.ledger.specs.Interest.{isPrice, interestOn}
-use Rattle.ledger.specs.Settling.{reduced, settle}
+use Rattle.ledger.specs.Settling.{settle}
 use Rattle.ledger.proofs.Interest.{interest-bears-none}
 use Rattle.ledger.proofs.Settling.{interest-reduced}
 use Rattle.audit.specs.Book.{Entry, marked, arising}
@@ -57,6 +56,7 @@ brings day e unmarked = go (isPrice (e .item .kind)) refl
     zero-either : (b : Bool) → _≡_ {A = ℕ} (cond (b && true) 0 0) 0
     zero-either true = refl
     zero-either false = refl
+
     go : (b : Bool) → isPrice (e .item .kind) ≡ b → cond (not (e .settled) && true) (interestOn (e .item) day) 0 ≡ interestOn (e .item) day
     go true p = rw (unmarked p)
     go false p = rw (interest-bears-none (e .item) day p) (zero-either (not (e .settled)))
@@ -68,6 +68,7 @@ brings-none day e reached was = go (isPrice (e .item .kind)) refl
     zero-either : (b : Bool) → _≡_ {A = ℕ} (cond b 0 0) 0
     zero-either true = refl
     zero-either false = refl
+
     go : (b : Bool) → isPrice (e .item .kind) ≡ b → cond (not (e .settled) && reached) (interestOn (e .item) day) 0 ≡ 0
     go true p = rw (was p)
     go false p = rw (interest-bears-none (e .item) day p) (zero-either (not (e .settled) && reached))
@@ -78,8 +79,8 @@ all-arising day paid sum [] full unmarked = refl
 all-arising day paid sum (e ∷ es) full unmarked = go (leb (e .item .unpaid) paid) refl (all-arising day (paid - e .item .unpaid) (sum + e .item .amount) es (full .1) (unmarked .1))
   where
     go : (b : Bool) → leb (e .item .unpaid) paid ≡ b
-       → settle day (paid - e .item .unpaid) (itemsOf es) .arisen ≡ arising day (sum + e .item .amount + (paid - e .item .unpaid)) (sum + e .item .amount) es
-       → settle day paid (itemsOf (e ∷ es)) .arisen ≡ arising day (sum + paid) sum (e ∷ es)
+        → settle day (paid - e .item .unpaid) (itemsOf es) .arisen ≡ arising day (sum + e .item .amount + (paid - e .item .unpaid)) (sum + e .item .amount) es
+        → settle day paid (itemsOf (e ∷ es)) .arisen ≡ arising day (sum + paid) sum (e ∷ es)
     go true t ih =
         let h : e .item .unpaid ≤ paid = leb-true (e .item .unpaid) paid t in
         let same : sum + e .item .amount + (paid - e .item .unpaid) ≡ sum + paid = omega (arith, full .0 .in-full) in
@@ -104,13 +105,17 @@ arising-is day paid more sum (e ∷ es) behind full fullBehind marks unmarked =
   where
     next : ℕ
     next = sum + e .item .amount
+
     Goal : Type 0
     Goal = settle day (settle 0 paid (itemsOf (e ∷ es)) .left + more) (settle 0 paid (itemsOf (e ∷ es)) .open-items ++ itemsOf behind) .arisen ≡ arising day (sum + (paid + more)) sum (e ∷ es ++ behind)
+
     -- the items behind this one, none of them settled before
     later : Every FullEntry (es ++ behind)
     later = every-append FullEntry es behind (full .1) fullBehind
+
     fresh : paid < e .item .unpaid → Unmarked (es ++ behind)
     fresh h = every-append (λ x. isPrice (x .item .kind) ≡ true → x .settled ≡ false) es behind (marks-past (sum + paid) next es (omega (arith, full .0 .in-full)) (marks .1)) unmarked
+
     short : leb (e .item .unpaid) paid ≡ false → (b : Bool) → leb (e .item .unpaid - paid) more ≡ b → Goal
     short t true f =
         let h : paid < e .item .unpaid = leb-false (e .item .unpaid) paid t in
@@ -129,9 +134,10 @@ arising-is day paid more sum (e ∷ es) behind full fullBehind marks unmarked =
         nothing : (b : Bool) → 0 ≡ cond (b && false) (interestOn (e .item) day) 0 + 0
         nothing true = refl
         nothing false = refl
+
     go : (b : Bool) → leb (e .item .unpaid) paid ≡ b
-       → (Marks (next + (paid - e .item .unpaid)) next es → settle day (settle 0 (paid - e .item .unpaid) (itemsOf es) .left + more) (settle 0 (paid - e .item .unpaid) (itemsOf es) .open-items ++ itemsOf behind) .arisen ≡ arising day (next + (paid - e .item .unpaid + more)) next (es ++ behind))
-       → Goal
+        → (Marks (next + (paid - e .item .unpaid)) next es → settle day (settle 0 (paid - e .item .unpaid) (itemsOf es) .left + more) (settle 0 (paid - e .item .unpaid) (itemsOf es) .open-items ++ itemsOf behind) .arisen ≡ arising day (next + (paid - e .item .unpaid + more)) next (es ++ behind))
+        → Goal
     go true t ih =
         let h : e .item .unpaid ≤ paid = leb-true (e .item .unpaid) paid t in
         let same : next + (paid - e .item .unpaid) ≡ sum + paid = omega (arith, full .0 .in-full) in

@@ -1,21 +1,20 @@
 -- How an account and the book of the calls made on it belong together. Assumes nothing.
-use mathlib.Core.Path.{_≡_, refl, ap, sym, _∙_}
-use mathlib.Core.Bool.{Bool, true, false, false≢true}
-use mathlib.Core.List.{List, [], _∷_, map, reverse}
+use mathlib.Core.Path.{_≡_, refl, ap, _∙_}
+use mathlib.Core.Bool.{true, false, false≢true}
+use mathlib.Core.List.{map, reverse}
 use Prim.Native.Nat.{ℕ, _+_, _≤_}
 use lib.Dec.{eqb}
 use Rattle.lists.proofs.Pad.{take-pad}
-use Rattle.meter.specs.declared.Estimate.{Estimate}
 use Rattle.meter.specs.Sharing.{blank}
 use Rattle.account.specs.declared.Status.{Status}
 use Rattle.account.specs.declared.Status.the-variants.{New, Supplied, Stopped, Cancelled}
 use Rattle.account.specs.declared.Account.{Account}
 use Rattle.account.specs.Closing.{startOf, stopOf, storedEstimates}
-use Rattle.account.specs.Calls.{standingEstimates, isCancelled}
-use Rattle.account.specs.Refusals.{isNew, isSupplied, isStopped}
+use Rattle.account.specs.Calls.{standingEstimates}
+use Rattle.account.specs.Refusals.{isSupplied, isStopped}
 use Rattle.account.proofs.Facts.{Facts, StatusFacts}
 use Rattle.account.proofs.Sound.{load}
-use Rattle.audit.specs.Book.{Book, Period, asEstimate, estimates, prices, volumeBefore, closedOn}
+use Rattle.audit.specs.Book.{Book, asEstimate, estimates, prices, volumeBefore, closedOn}
 use Rattle.audit.proofs.Balance.{Balanced, onLedger}
 use Rattle.audit.proofs.Periods.{AbsentZero}
 

@@ -2,12 +2,10 @@
 use mathlib.Core.Path.{_≡_, refl, ap, sym, subst, _∙_}
 use mathlib.Core.Logic.{inl}
 use mathlib.Core.Bool.{Bool, true, false, cond, false≢true}
-use mathlib.Core.List.{List, []}
-use Prim.Native.Nat.{ℕ, _+_, _≤_, _<_}
+use Prim.Native.Nat.{ℕ, _+_, _≤_}
 use native.Mathlib.Nat.{le-refl}
 use native.Mathlib.Omega.{arith}
 use lib.Dec.{eqb}
-use lib.ListN.{take}
 use Rattle.lists.specs.Every.{Every}
 use Rattle.lists.proofs.Every.{every-map}
 use Rattle.ledger.specs.declared.Ledger.{Ledger}
@@ -15,17 +13,17 @@ use Rattle.ledger.specs.Posting.{Standing, standing}
 use Rattle.account.specs.declared.Status.{Status}
 use Rattle.account.specs.declared.Status.the-variants.{New, Supplied, Stopped, Cancelled}
 use Rattle.account.specs.declared.Account.{Account}
-use Rattle.account.specs.Closing.{startOf, stopOf, resumedStart}
+use Rattle.account.specs.Closing.{stopOf, resumedStart}
 use Rattle.account.specs.Calls
-use Rattle.account.specs.Calls.{standingEstimates, poolTo}
+use Rattle.account.specs.Calls.{standingEstimates}
 use Rattle.account.specs.Refusals.{isNew, isSupplied, isStopped}
-use Rattle.account.proofs.Facts.{ItemFacts, EstimateFacts, MeterFacts, LedgerFacts, Facts, StatusFacts, Made, made-facts}
+use Rattle.account.proofs.Facts.{ItemFacts, EstimateFacts, LedgerFacts, Facts, StatusFacts, Made, made-facts}
 use Rattle.account.proofs.Passed.{DialPassed, ExchangePassed}
 use Rattle.account.proofs.Sound.{item-later, load}
 use Rattle.audit.specs.Book
-use Rattle.audit.specs.Book.{Book, Money, Metering, closedOn, prices, settled, finished, acceptMeter, begun, exchanged}
-use Rattle.audit.proofs.Balance.{Balanced, onLedger, settled-same, quiet-balanced, finished-open}
-use Rattle.audit.proofs.Matching.{Metered, Matched, StatusMatch, Supply, supply, Stop, stop}
+use Rattle.audit.specs.Book.{Book, Money, Metering, closedOn, settled, acceptMeter, begun, exchanged}
+use Rattle.audit.proofs.Balance.{onLedger, settled-same, quiet-balanced, finished-open}
+use Rattle.audit.proofs.Matching.{Matched, StatusMatch, Supply, supply, Stop, stop}
 
 -- A ledger with the items of an earlier day.
 ledger-later : (latest day : ℕ) (ledger : Ledger) → latest ≤ day → LedgerFacts latest ledger → LedgerFacts day ledger
@@ -35,7 +33,7 @@ ledger-later latest day ledger h w =
       items = every-map (ItemFacts latest) (ItemFacts day) (item-later latest day h) (standing ledger .open-items) (w .items);
       held-most = w .held-most;
       credit-most = w .credit-most;
-      credit-or-none = w .credit-or-none
+      credit-or-none = w .credit-or-none;
     }
 
 -- The money of the book after such a call.
@@ -70,23 +68,24 @@ module _ (a : Account) (b : Book) (w : Matched a b) (day reading digits start bo
       rw (finished-open (b .money) day not-cancelled)
       (record {
         metered =
-          record {
-            dial-is = refl;
-            digits-is = refl;
-            pool-is = w .metered .pool-is;
-            previous-is = w .metered .previous-is;
-            estimates-are = w .metered .estimates-are;
-            zeros = w .metered .zeros
-          };
+            record {
+              dial-is = refl;
+              digits-is = refl;
+              pool-is = w .metered .pool-is;
+              previous-is = w .metered .previous-is;
+              estimates-are = w .metered .estimates-are;
+              zeros = w .metered .zeros;
+            };
         balanced = quiet-balanced day (w .balanced);
         status-match = (same-start, not-cancelled);
-        facts =
-          (start-most,
+        facts = (
+          start-most,
           record {
             meter = record { latest-most = p .day-most; digits-within = p .digits-within; dial-within = p .on-dial; pool-most = pool-most; previous-most = previous-most; misses-most = misses-most; estimates = estimates };
-            ledger = ledger-later (a .latest) day (a .ledger) (p .not-before) ledger
-          });
-        load-most = load-same a b day w
+            ledger = ledger-later (a .latest) day (a .ledger) (p .not-before) ledger;
+          },
+        );
+        load-most = load-same a b day w;
       })
 
 pub opening-matched : (a : Account) (b : Book) → Matched a b → (day reading digits : ℕ) → DialPassed (isNew (a .status)) a day reading digits
@@ -96,8 +95,10 @@ opening-matched a b w day reading digits p =
   where
     made : Made a
     made = new-facts a (p .status-allows) (w .facts)
+
     none-estimated : Every EstimateFacts (standingEstimates a)
     none-estimated = rw (made .misses-none) tt
+
     none-open : LedgerFacts (a .latest) (a .ledger)
     none-open =
         record {
@@ -105,7 +106,7 @@ opening-matched a b w day reading digits p =
           items = rw (made .items-none) tt;
           held-most = omega (arith, made .held-none);
           credit-most = omega (arith, made .credit-none);
-          credit-or-none = inl (made .credit-none)
+          credit-or-none = inl (made .credit-none);
         }
 
 pub reconnection-matched : (a : Account) (b : Book) → Matched a b → (day reading digits : ℕ) → DialPassed (isStopped (a .status)) a day reading digits
@@ -116,6 +117,7 @@ reconnection-matched a b w day reading digits p =
   where
     stopped : Stop a b
     stopped = stop a b w (p .status-allows)
+
     start-most : (c : Bool) → cond c (day + 1) day ≤ day + 1
     start-most true = le-refl (day + 1)
     start-most false = omega arith
@@ -140,34 +142,35 @@ exchange-matched a b w day old new digits p =
     rw (finished-open (b .money) day (supplied .not-cancelled))
     (record {
       metered =
-        record {
-          dial-is = refl;
-          digits-is = refl;
-          pool-is = rw (w .metered .pool-is, w .metered .digits-is, w .metered .dial-is);
-          previous-is = w .metered .previous-is;
-          estimates-are = w .metered .estimates-are;
-          zeros = w .metered .zeros
-        };
+          record {
+            dial-is = refl;
+            digits-is = refl;
+            pool-is = rw (w .metered .pool-is, w .metered .digits-is, w .metered .dial-is);
+            previous-is = w .metered .previous-is;
+            estimates-are = w .metered .estimates-are;
+            zeros = w .metered .zeros;
+          };
       balanced = quiet-balanced day (w .balanced);
       status-match = still-match (a .status) b (exchanged (b .metering) old new digits) (settled (b .money) day) (p .supplied) refl refl (w .status-match);
       facts = still-facts (a .status) a (Calls.exchanged a day old new digits .account) (p .supplied) (p .not-before) facts-after (w .facts);
-      load-most = load-same a b day w
+      load-most = load-same a b day w;
     })
   where
     supplied : Supply a b
     supplied = supply a b w (p .supplied)
+
     facts-after : Facts (Calls.exchanged a day old new digits .account)
     facts-after =
         record {
           meter =
-            record {
-              latest-most = p .day-most;
-              digits-within = p .digits-within;
-              dial-within = p .new-on-dial;
-              pool-most = p .pool-most;
-              previous-most = supplied .facts .meter .previous-most;
-              misses-most = supplied .facts .meter .misses-most;
-              estimates = supplied .facts .meter .estimates
-            };
-          ledger = ledger-later (a .latest) day (a .ledger) (p .not-before) (supplied .facts .ledger)
+              record {
+                latest-most = p .day-most;
+                digits-within = p .digits-within;
+                dial-within = p .new-on-dial;
+                pool-most = p .pool-most;
+                previous-most = supplied .facts .meter .previous-most;
+                misses-most = supplied .facts .meter .misses-most;
+                estimates = supplied .facts .meter .estimates;
+              };
+          ledger = ledger-later (a .latest) day (a .ledger) (p .not-before) (supplied .facts .ledger);
         }

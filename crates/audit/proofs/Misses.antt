@@ -1,34 +1,30 @@
 -- 03 and 04: a miss keeps account and book together. Assumes nothing.
-use mathlib.Core.Path.{_≡_, refl, ap, ap₂, sym, _∙_}
-use mathlib.Core.Bool.{Bool, true, false, false≢true}
-use mathlib.Core.List.{List, [], _∷_, _++_, map, map-append, reverse, reverse-cons}
-use Prim.Native.Nat.{ℕ, _+_, _-_, _≤_}
+use mathlib.Core.Path.{_≡_, refl, ap, sym}
+use mathlib.Core.Bool.{true, false}
+use mathlib.Core.List.{[], _∷_, _++_, map, map-append, reverse, reverse-cons}
+use Prim.Native.Nat.{ℕ, _+_, _≤_}
 use native.Mathlib.Nat.{le-refl}
 use native.Mathlib.Omega.{arith}
 use lib.IntN.{ℤ, pos}
 use lib.ListN.{length, length-append, length-take}
-use Rattle.lists.specs.Every.{Every}
 use Rattle.lists.proofs.Every.{every-append}
 use Rattle.lists.proofs.Pad.{take-pad}
 use Rattle.tariff.specs.declared.Fuel.{Fuel}
-use Rattle.tariff.specs.Price.{priceOf}
 use Rattle.tariff.proofs.Bounds.{price-most}
-use Rattle.meter.specs.declared.Estimate.{Estimate}
 use Rattle.meter.specs.Sharing.{blank}
 use Rattle.ledger.specs.Posting.{Standing, standing, stored, closed}
-use Rattle.account.specs.declared.Status.the-variants.{Supplied}
 use Rattle.account.specs.declared.Account.{Account}
 use Rattle.account.specs.Closing.{startOf, daysOf, storedEstimates}
 use Rattle.account.specs.Calls.{standingEstimates, estimateOf, missed}
-use Rattle.account.proofs.Facts.{EstimateFacts, MeterFacts, Facts}
+use Rattle.account.proofs.Facts.{EstimateFacts, MeterFacts}
 use Rattle.account.proofs.Passed.{MissPassed}
 use Rattle.account.proofs.Sound.{Bounded, closed-bounded, stored-facts}
 use Rattle.account.proofs.Nets.{billable}
 use Rattle.audit.specs.Book
 use Rattle.audit.specs.Book.{Book, Closing, Money, Period, isReading, isAbsence, asEstimate, estimates, prices, priceAt, newPeriod, netAdded, settled, finished, acceptMiss}
-use Rattle.audit.proofs.Balance.{Balanced, Kept, onLedger, standing-is, standing-stored, closed-is, closed-kept, finished-open}
-use Rattle.audit.proofs.Periods.{AbsentZero, difference, sub-added}
-use Rattle.audit.proofs.Matching.{Metered, Matched, Supply, supply, estimates-stand}
+use Rattle.audit.proofs.Balance.{Kept, onLedger, standing-is, standing-stored, closed-is, closed-kept, finished-open}
+use Rattle.audit.proofs.Periods.{difference, sub-added}
+use Rattle.audit.proofs.Matching.{Matched, Supply, supply, estimates-stand}
 use Rattle.audit.proofs.Readings.{bounded}
 
 -- A closing that is no reading, of a volume within the limit, 0 for known absence.
@@ -114,8 +110,8 @@ module _ (a : Account) (b : Book) (w : Matched a b) (day : ℕ) (fuel : Fuel) (p
         previous-most = within;
         misses-most = rw (length-append (standingEstimates a) (estimateOf a day fuel (isAbsence closing) volume ∷ [])) (omega (arith, length-take (a .estimates .count) (a .estimates .periods), p .misses-most));
         estimates =
-          rw (take-pad blank 6 (standingEstimates a ++ (estimateOf a day fuel (isAbsence closing) volume ∷ [])))
-          (every-append EstimateFacts (standingEstimates a) (estimateOf a day fuel (isAbsence closing) volume ∷ []) (supplied .facts .meter .estimates) (this-facts, tt))
+            rw (take-pad blank 6 (standingEstimates a ++ (estimateOf a day fuel (isAbsence closing) volume ∷ [])))
+            (every-append EstimateFacts (standingEstimates a) (estimateOf a day fuel (isAbsence closing) volume ∷ []) (supplied .facts .meter .estimates) (this-facts, tt));
       }
 
   pub miss-matched : length (closed day (pos (estimateOf a day fuel (isAbsence closing) volume .charged)) (standing (a .ledger)) .open-items) ≤ 72
@@ -126,21 +122,22 @@ module _ (a : Account) (b : Book) (w : Matched a b) (day : ℕ) (fuel : Fuel) (p
       rw finished-is
       (record {
         metered =
-          record {
-            dial-is = w .metered .dial-is;
-            digits-is = w .metered .digits-is;
-            pool-is = w .metered .pool-is;
-            previous-is = refl;
-            estimates-are = ap storedEstimates estimates-are;
-            zeros = (absent-zero, w .metered .zeros)
-          };
+            record {
+              dial-is = w .metered .dial-is;
+              digits-is = w .metered .digits-is;
+              pool-is = w .metered .pool-is;
+              previous-is = refl;
+              estimates-are = ap storedEstimates estimates-are;
+              zeros = (absent-zero, w .metered .zeros);
+            };
         balanced = record { stored-as = ap stored ledger-is; fits = rw ledger-is at items-most; kept = kept };
         status-match = (refl, unfold money in (supplied .not-cancelled));
-        facts =
-          (le-refl (day + 1),
+        facts = (
+          le-refl (day + 1),
           record {
             meter = meter-after;
-            ledger = stored-facts day afterLedger (after-bounded .sound) items-most credit-most (omega (arith, after-bounded .load-most)) (standing-stored afterLedger items-most)
-          });
-        load-most = rw ledger-is at (after-bounded .load-most)
+            ledger = stored-facts day afterLedger (after-bounded .sound) items-most credit-most (omega (arith, after-bounded .load-most)) (standing-stored afterLedger items-most);
+          },
+        );
+        load-most = rw ledger-is at (after-bounded .load-most);
       })

@@ -1,7 +1,7 @@
 -- 09 and 0a: a payment, and a cancellation while stopped, keep account and book together. Assumes nothing.
 use mathlib.Core.Path.{_≡_, refl, ap, sym, subst, _∙_}
 use mathlib.Core.Bool.{Bool, true, false, cond, not, false≢true, true≢false}
-use Prim.Native.Nat.{ℕ, _+_, _*_, _≤_}
+use Prim.Native.Nat.{ℕ, _≤_}
 use native.Mathlib.Omega.{arith}
 use lib.ListN.{length}
 use Rattle.ledger.specs.declared.Ledger.{Ledger}
@@ -10,13 +10,13 @@ use Rattle.account.specs.declared.Status.{Status}
 use Rattle.account.specs.declared.Status.the-variants.{New, Supplied, Stopped, Cancelled}
 use Rattle.account.specs.declared.Account.{Account}
 use Rattle.account.specs.Calls.{withLedger, isCancelled, paidLedger, payment, stoppedCancellation}
-use Rattle.account.specs.Refusals.{isNew, isStopped}
-use Rattle.account.proofs.Facts.{MeterFacts, LedgerFacts, Facts, StatusFacts}
+use Rattle.account.specs.Refusals.{isNew}
+use Rattle.account.proofs.Facts.{Facts, StatusFacts}
 use Rattle.account.proofs.Passed.{Begun}
-use Rattle.account.proofs.Sound.{Bounded, Sound, load, paid-bounded, posted-sound, stored-facts}
+use Rattle.account.proofs.Sound.{Bounded, Sound, paid-bounded, posted-sound, stored-facts}
 use Rattle.audit.specs.Book.{Book, Money, prices, settled, received, interestEntered, cancelled, finished, acceptMoney}
-use Rattle.audit.proofs.Balance.{Balanced, Kept, onLedger, standing-is, standing-stored, paid-is, paid-kept, entered-is, entered-kept, quiet-kept, nothing-waits, finished-open, finished-cancelled}
-use Rattle.audit.proofs.Matching.{Metered, Matched, StatusMatch, Stop, stop}
+use Rattle.audit.proofs.Balance.{Kept, onLedger, standing-is, standing-stored, paid-is, paid-kept, entered-is, entered-kept, quiet-kept, nothing-waits, finished-open, finished-cancelled}
+use Rattle.audit.proofs.Matching.{Metered, Matched, StatusMatch, stop}
 use Rattle.audit.proofs.Readings.{bounded}
 
 -- An account that is not new.
@@ -36,23 +36,23 @@ module _ (a : Account) (b : Book) (w : Matched a b) (day : ℕ) (day-most : day 
         pool-is = w .metered .pool-is;
         previous-is = w .metered .previous-is;
         estimates-are = w .metered .estimates-are;
-        zeros = w .metered .zeros
+        zeros = w .metered .zeros;
       }
 
   facts-after : (status : Status) (s : Standing) → Sound day s → length (s .open-items) ≤ 72 → s .credit ≤ 999999999 → s .held ≤ 1000000000000 → Facts (withLedger a day status (stored s))
   facts-after status s sound items-most credit-most held-most =
       record {
         meter =
-          record {
-            latest-most = day-most;
-            digits-within = facts .meter .digits-within;
-            dial-within = facts .meter .dial-within;
-            pool-most = facts .meter .pool-most;
-            previous-most = facts .meter .previous-most;
-            misses-most = facts .meter .misses-most;
-            estimates = facts .meter .estimates
-          };
-        ledger = stored-facts day s sound items-most credit-most held-most (standing-stored s items-most)
+            record {
+              latest-most = day-most;
+              digits-within = facts .meter .digits-within;
+              dial-within = facts .meter .dial-within;
+              pool-most = facts .meter .pool-most;
+              previous-most = facts .meter .previous-most;
+              misses-most = facts .meter .misses-most;
+              estimates = facts .meter .estimates;
+            };
+        ledger = stored-facts day s sound items-most credit-most held-most (standing-stored s items-most);
       }
 
   before : Bounded day (onLedger (b .money))
@@ -98,9 +98,9 @@ module _ (a : Account) (b : Book) (w : Matched a b) (day : ℕ) (day-most : day 
           balanced = record { stored-as = ap stored ledger-is; fits = rw ledger-is at items-most; kept = kept };
           status-match = match-after (a .status) not-cancelled (w .status-match);
           facts =
-            status-after (a .status) (withLedger a day (a .status) (stored (paidLedger a day yen))) not-cancelled not-new not-before
-            (facts-after (a .status) (paidLedger a day yen) (after-bounded .sound) items-most credit-most (omega (arith, after-bounded .load-most))) (w .facts);
-          load-most = rw ledger-is at (after-bounded .load-most)
+              status-after (a .status) (withLedger a day (a .status) (stored (paidLedger a day yen))) not-cancelled not-new not-before
+              (facts-after (a .status) (paidLedger a day yen) (after-bounded .sound) items-most credit-most (omega (arith, after-bounded .load-most))) (w .facts);
+          load-most = rw ledger-is at (after-bounded .load-most);
         })
 
     posted-is : heldPosted day (paidLedger a day yen) ≡ onLedger (interestEntered money day)
@@ -120,7 +120,7 @@ module _ (a : Account) (b : Book) (w : Matched a b) (day : ℕ) (day-most : day 
           balanced = record { stored-as = ap stored posted-is; fits = rw posted-is at items-most; kept = entered-kept day money (prices (b .periods)) kept };
           status-match = (refl, book-cancelled);
           facts = (none-held, facts-after Cancelled (heldPosted day (paidLedger a day yen)) (posted-sound day (paidLedger a day yen) day-most after-bounded) items-most credit-most (omega (arith, none-held)));
-          load-most = omega (arith, rw posted-is at items-most)
+          load-most = omega (arith, rw posted-is at items-most);
         })
 
   -- 0a.
@@ -151,7 +151,7 @@ module _ (a : Account) (b : Book) (w : Matched a b) (day : ℕ) (day-most : day 
         balanced = record { stored-as = ap stored ended-is; fits = rw ended-is at items-most; kept = ended-kept };
         status-match = (refl, refl);
         facts = (ended-none, facts-after Cancelled (heldPosted day (standing (a .ledger))) ended-sound items-most credit-most (omega (arith, ended-none)));
-        load-most = omega (arith, rw ended-is at items-most)
+        load-most = omega (arith, rw ended-is at items-most);
       }
 
 -- 09 by status.
@@ -174,14 +174,19 @@ payment-matched a b w day yen p items-most credit-most = go (isCancelled (a .sta
   where
     facts : Facts a
     facts = facts-of (a .status) a (p .status-allows) (w .facts)
+
     after : Bool → Standing
     after c = cond c (heldPosted day (paidLedger a day yen)) (paidLedger a day yen)
+
     places : (c : Bool) → isCancelled (a .status) ≡ c → length (after c .open-items) ≤ 72
     places c e = subst (λ d. length (after d .open-items) ≤ 72) e items-most
+
     credit : (c : Bool) → isCancelled (a .status) ≡ c → after c .credit ≤ 999999999
     credit c e = subst (λ d. after d .credit ≤ 999999999) e credit-most
+
     Goal : Bool → Type 0
     Goal c = Matched (withLedger a day (a .status) (stored (after c))) (acceptMoney b day (received (b .money) yen))
+
     go : (c : Bool) → isCancelled (a .status) ≡ c → Goal (isCancelled (a .status))
     go false e =
         subst Goal (sym e)

@@ -1,24 +1,21 @@
 -- The net of a closing is what it adds to the price of all periods. Assumes nothing.
-use mathlib.Core.Path.{_≡_, refl, ap, ap₂, sym, _∙_}
-use mathlib.Core.Bool.{Bool, true, false, cond, not, false≢true, true≢false}
-use mathlib.Core.List.{List, [], _∷_, _++_, map, map-append, reverse, reverse-cons, append-assoc}
-use Prim.Native.Nat.{ℕ, zero, suc, _+_, _-_, _≤_, _<_}
-use native.Mathlib.Nat.{add-zero, zero-add}
+use mathlib.Core.Path.{_≡_, refl, ap, sym, _∙_}
+use mathlib.Core.Bool.{Bool, true, false, cond, not}
+use mathlib.Core.List.{List, [], _∷_, _++_, map, reverse}
+use Prim.Native.Nat.{ℕ, suc, _+_, _-_, _≤_, _<_}
 use native.Mathlib.Omega.{arith}
 use lib.Dec.{leb, ltb}
 use lib.IntN.{ℤ, pos, negsuc, subℕ}
-use lib.ListN.{length, getD}
-use borrow.Author.Tests.{leb-true, le-ltb, lt-ltb, ltb-true, ltb-false}
+use lib.ListN.{length}
+use borrow.Author.Tests.{le-ltb, lt-ltb, ltb-true, ltb-false}
 use Rattle.lists.specs.Sum.{total}
 use Rattle.lists.specs.Every.{Every}
 use Rattle.lists.proofs.Sum.{total-append, total-reverse}
 use Rattle.lists.proofs.Every.{every-append, every-reverse}
-use Rattle.tariff.specs.Price.{priceOf}
-use Rattle.meter.specs.declared.Estimate.{Estimate}
 use Rattle.meter.specs.Sharing.{sharing, estimated, sharedPool, finalVolumes}
 use Rattle.meter.proofs.Absence.{ZeroAt, absent-zero}
 use Rattle.account.specs.Closing.{ofThisPeriod, revisedPrices, revisedCharges, netOf}
-use Rattle.audit.specs.Book.{Closing, byReading, byMiss, byAbsence, Period, isReading, isAbsence, estimates, beforeEstimates, priceAt, prices, asEstimate, withVolume, revised, lastOf, aboveZero, belowZero}
+use Rattle.audit.specs.Book.{Period, isReading, isAbsence, estimates, beforeEstimates, priceAt, prices, asEstimate, revised, lastOf, aboveZero, belowZero}
 
 -- Differences.
 
@@ -164,7 +161,7 @@ module _ (periods : List Period) (pool : ℕ) where
     net-added price = go (leb (estimated (map asEstimate oldest)) pool) refl
       where
         go : (b : Bool) → leb (estimated (map asEstimate oldest)) pool ≡ b
-           → cond b (pos price) (subℕ (price + revisedPrices (map asEstimate oldest) given) (revisedCharges (map asEstimate oldest))) ≡ subℕ (price + prices after) (prices periods)
+            → cond b (pos price) (subℕ (price + revisedPrices (map asEstimate oldest) given) (revisedCharges (map asEstimate oldest))) ≡ subℕ (price + prices after) (prices periods)
         go true e =
             let same : prices after ≡ prices periods = prices-after ∙ ap (λ ps. prices ps + prices (beforeEstimates periods)) (stands e) ∙ sym prices-oldest in
             rw same (sym (sub-added price (prices periods)))

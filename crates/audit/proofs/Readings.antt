@@ -1,39 +1,36 @@
 -- 02, 06 and 08: a real reading that closes a period keeps account and book together. Assumes nothing.
 use mathlib.Core.Path.{_≡_, refl, ap, sym, subst, _∙_}
-use mathlib.Core.Bool.{Bool, true, false, cond, false≢true}
-use mathlib.Core.List.{List, [], _∷_, _++_, map, reverse}
-use Prim.Native.Nat.{ℕ, suc, _+_, _-_, _*_, _≤_, _<_}
+use mathlib.Core.Bool.{false≢true}
+use mathlib.Core.List.{List}
+use Prim.Native.Nat.{ℕ, _+_, _≤_}
 use native.Mathlib.Nat.{le-refl}
 use native.Mathlib.Omega.{arith}
-use lib.Dec.{eqb}
 use lib.IntN.{ℤ}
-use lib.ListN.{length, take, length-take}
+use lib.ListN.{length, length-take}
 use Rattle.lists.specs.Sum.{sum}
 use Rattle.lists.specs.Every.{Every}
 use Rattle.lists.proofs.Every.{every-map}
 use Rattle.tariff.specs.declared.Fuel.{Fuel}
-use Rattle.tariff.specs.Price.{priceOf}
 use Rattle.tariff.proofs.Bounds.{price-most}
-use Rattle.meter.specs.Sharing.{finalVolumes}
 use Rattle.meter.proofs.Sharing.{final-sum}
 use Rattle.ledger.specs.declared.Ledger.{Ledger}
 use Rattle.ledger.specs.Posting.{Standing, standing, stored, closed, heldPosted, chargeOf}
 use Rattle.ledger.proofs.Settling.{left-or-none}
 use Rattle.account.specs.declared.Status.{Status}
-use Rattle.account.specs.declared.Status.the-variants.{New, Supplied, Stopped, Cancelled}
+use Rattle.account.specs.declared.Status.the-variants.{Supplied, Stopped, Cancelled}
 use Rattle.account.specs.declared.Account.{Account}
-use Rattle.account.specs.Closing.{startOf, daysOf, dayAfter, ofThisPeriod, netOf}
+use Rattle.account.specs.Closing.{startOf, daysOf, dayAfter, ofThisPeriod}
 use Rattle.account.specs.Calls
 use Rattle.account.specs.Calls.{standingEstimates, poolTo, madeFinal, closingPrice, closingNet, closedLedger, afterReading}
-use Rattle.account.proofs.Facts.{ItemFacts, EstimateFacts, MeterFacts, LedgerFacts, Facts, StatusFacts}
+use Rattle.account.proofs.Facts.{ItemFacts, MeterFacts, LedgerFacts, Facts, StatusFacts}
 use Rattle.account.proofs.Passed.{ReadingPassed}
-use Rattle.account.proofs.Sound.{item-later, Sound, Bounded, load, closed-bounded, posted-sound, stored-facts}
+use Rattle.account.proofs.Sound.{item-later, Bounded, closed-bounded, posted-sound, stored-facts}
 use Rattle.account.proofs.Nets.{billable, this-within, charge-most}
 use Rattle.audit.specs.Book
-use Rattle.audit.specs.Book.{Book, Money, Period, byReading, asEstimate, estimates, prices, priceAt, lastOf, newPeriod, poolWith, withReading, netAdded, paidIn, settled, finished, interestEntered, cancelled, read, acceptReading}
+use Rattle.audit.specs.Book.{Book, Money, Period, byReading, estimates, prices, priceAt, lastOf, newPeriod, poolWith, withReading, netAdded, paidIn, settled, finished, interestEntered, cancelled, read, acceptReading}
 use Rattle.audit.proofs.Entries.{itemsOf}
 use Rattle.audit.proofs.Balance.{Balanced, Kept, onLedger, standing-is, standing-stored, closed-is, closed-kept, entered-is, entered-kept, finished-open}
-use Rattle.audit.proofs.Periods.{oldest, given, after, difference, last-is, net-added, zeros-after}
+use Rattle.audit.proofs.Periods.{given, difference, last-is, net-added, zeros-after}
 use Rattle.audit.proofs.Matching.{Metered, Matched, StatusMatch, Supply, supply, estimates-stand}
 
 -- What stands on a matched account, on a day not before its latest.
@@ -41,11 +38,11 @@ pub bounded : (a : Account) (b : Book) → Matched a b → (day : ℕ) → a .la
 bounded a b w day h facts =
     record {
       sound =
-        record {
-          items = subst (λ (s : Standing). Every (ItemFacts day) (s .open-items)) (standing-is (w .balanced)) (every-map (ItemFacts (a .latest)) (ItemFacts day) (item-later (a .latest) day h) (standing (a .ledger) .open-items) (facts .ledger .items));
-          settled = left-or-none 0 (paidIn (b .money)) (itemsOf (b .money .entries))
-        };
-      load-most = w .load-most
+          record {
+            items = subst (λ (s : Standing). Every (ItemFacts day) (s .open-items)) (standing-is (w .balanced)) (every-map (ItemFacts (a .latest)) (ItemFacts day) (item-later (a .latest) day h) (standing (a .ledger) .open-items) (facts .ledger .items));
+            settled = left-or-none 0 (paidIn (b .money)) (itemsOf (b .money .entries));
+          };
+      load-most = w .load-most;
     }
 
 module _ (a : Account) (b : Book) (w : Matched a b) (day reading : ℕ) (fuel : Fuel) (p : ReadingPassed a day reading fuel) where
@@ -127,7 +124,7 @@ module _ (a : Account) (b : Book) (w : Matched a b) (day reading : ℕ) (fuel : 
         pool-most = omega arith;
         previous-most = this-within (standingEstimates a) (poolTo a reading) (p .pool-most);
         misses-most = omega arith;
-        estimates = tt
+        estimates = tt;
       }
 
   metered-after : (status : Status) (ledger : Ledger) (m : Money) → Metered (afterReading a day reading fuel status ledger) (record { metering = read (b .metering) day reading; periods = periods; money = m })
@@ -139,7 +136,7 @@ module _ (a : Account) (b : Book) (w : Matched a b) (day reading : ℕ) (fuel : 
         pool-is = refl;
         previous-is = rw final-is (sym (last-is (given (b .periods) pool)));
         estimates-are = refl;
-        zeros = ((λ e. absurd (false≢true e)), zeros-after (b .periods) pool (w .metered .zeros))
+        zeros = ((λ e. absurd (false≢true e)), zeros-after (b .periods) pool (w .metered .zeros));
       }
 
   -- 02 and 06.
@@ -148,7 +145,7 @@ module _ (a : Account) (b : Book) (w : Matched a b) (day reading : ℕ) (fuel : 
     facts-after status =
         record {
           meter = meter-after status (stored (closedLedger a day reading fuel));
-          ledger = stored-facts day (closedLedger a day reading fuel) (after-bounded .sound) items-most credit-most (omega (arith, after-bounded .load-most)) (standing-stored (closedLedger a day reading fuel) items-most)
+          ledger = stored-facts day (closedLedger a day reading fuel) (after-bounded .sound) items-most credit-most (omega (arith, after-bounded .load-most)) (standing-stored (closedLedger a day reading fuel) items-most);
         }
 
     balanced-after : Balanced (stored (closedLedger a day reading fuel)) money (prices periods)
@@ -169,7 +166,7 @@ module _ (a : Account) (b : Book) (w : Matched a b) (day reading : ℕ) (fuel : 
           balanced = balanced-after;
           status-match = match;
           facts = facts;
-          load-most = rw ledger-is at (after-bounded .load-most)
+          load-most = rw ledger-is at (after-bounded .load-most);
         })
 
     pub reading-matched : Matched (Calls.read a day reading fuel (Supplied (dayAfter day)) .account) (acceptReading b day reading fuel (λ m. m))
@@ -205,7 +202,7 @@ module _ (a : Account) (b : Book) (w : Matched a b) (day reading : ℕ) (fuel : 
           balanced = record { stored-as = ap stored last-is-entered; fits = rw last-is-entered at items-most; kept = same-kept (entered-kept day money (prices periods) kept) };
           status-match = (refl, refl);
           facts = (none-held, record { meter = meter-after Cancelled (stored (heldPosted day (closedLedger a day reading fuel))); ledger = ledger-after });
-          load-most = omega (arith, rw last-is-entered at items-most)
+          load-most = omega (arith, rw last-is-entered at items-most);
         }
 
   -- A real closing makes final what the meters advanced.

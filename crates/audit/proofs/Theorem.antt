@@ -1,34 +1,30 @@
 -- Demand 3: both sums, wholeness, and declined calls, after every list of calls from a new account. Assumes nothing.
-use mathlib.Core.Path.{_≡_, refl, ap, sym, subst, _∙_}
-use mathlib.Core.Bool.{Bool, true, false, cond, not, false≢true}
+use mathlib.Core.Path.{_≡_, refl, ap, subst}
+use mathlib.Core.Bool.{Bool, true, false, not, false≢true}
 use mathlib.Core.List.{List, [], _∷_}
-use Prim.Native.Nat.{ℕ, _+_, _≤_}
+use Prim.Native.Nat.{_+_}
 use native.Mathlib.Nat.{zero-add}
 use native.Mathlib.Omega.{arith}
 use lib.Dec.{eqb}
-use lib.ListN.{length, take}
-use borrow.Author.Tests.{eqb-true, eqb-false, ne-eqb}
+use borrow.Author.Tests.{eqb-true}
 use Rattle.lists.specs.Sum.{total, sum}
 use Rattle.lists.proofs.Pad.{take-pad}
-use Rattle.meter.specs.Sharing.{volumesOf}
 use Rattle.ledger.specs.Settling.{unpaidOf}
-use Rattle.ledger.specs.Posting.{Standing, standing, stored}
 use Rattle.account.specs.declared.Account.{Account}
-use Rattle.account.specs.declared.Answer.{Answer}
 use Rattle.account.specs.declared.Call.{Call}
 use Rattle.account.specs.declared.Call.the-variants.{Opening, Reading, Missed, Absent, Exchange, Disconnection, Reconnection, Cancellation, Payment, StoppedCancellation}
 use Rattle.account.specs.Limits.{paymentAllowed}
-use Rattle.account.specs.Calls.{Work, newAccount, work}
-use Rattle.account.specs.Refusals.{unless, isNew, isSupplied, isStopped, firstRefusal, refusal}
+use Rattle.account.specs.Calls.{Work, work}
+use Rattle.account.specs.Refusals.{unless, isNew, isStopped, firstRefusal, refusal}
 use Rattle.account.specs.Outcomes.{accepted, declined, outcome}
 use Rattle.account.specs.Whole.{asMade, whole}
 use Rattle.account.proofs.Facts.{facts-whole}
 use Rattle.account.proofs.Passed
-use Rattle.account.proofs.Passed.{Accepted, Begun, begun, passes, reading-passed, miss-passed, dial-passed, exchange-passed}
-use Rattle.audit.specs.Book.{Book, byMiss, byAbsence, newPeriod, empty, prices, acceptMiss, accept, enter}
+use Rattle.account.proofs.Passed.{Accepted, begun, reading-passed, miss-passed, dial-passed, exchange-passed}
+use Rattle.audit.specs.Book.{Book, byMiss, byAbsence, newPeriod, prices, acceptMiss, accept, enter}
 use Rattle.audit.specs.Claim.{Run, start, step, run, finalVolume, unpaidOn, Reconciled}
-use Rattle.audit.proofs.Balance.{Balanced, standing-is, yen-sum}
-use Rattle.audit.proofs.Matching.{Metered, Matched, supply, stop}
+use Rattle.audit.proofs.Balance.{standing-is, yen-sum}
+use Rattle.audit.proofs.Matching.{Matched, supply, stop}
 use Rattle.audit.proofs.Readings.{reading-matched, disconnection-matched, cancellation-matched, reading-advanced}
 use Rattle.audit.proofs.Misses.{miss-matched}
 use Rattle.audit.proofs.Meters.{opening-matched, reconnection-matched, exchange-matched}
@@ -50,7 +46,7 @@ keeps a b w (Missed day fuel) p =
     let s = supply a b w (q .supplied) in
     record {
       matched = subst (λ v. Matched (work a (Missed day fuel) .account) (acceptMiss b day (newPeriod (b .metering) byMiss day fuel v ∷ b .periods))) (w .metered .previous-is) (miss-matched a b w day fuel q byMiss refl (a .previous) (s .facts .meter .previous-most) (λ e. absurd (false≢true e)) (p .items-most) (p .credit-most));
-      volumes = zero-add (b .metering .advanced)
+      volumes = zero-add (b .metering .advanced);
     }
 keeps a b w (Absent day fuel) p =
     let q = miss-passed a day fuel (p .first-passed) in
@@ -67,13 +63,13 @@ keeps a b w (Payment day yen) p =
     let q = begun (not (isNew (a .status))) a day (unless (paymentAllowed yen) 11 0) (p .first-passed) in
     record {
       matched = payment-matched a b w day yen (record { status-allows = q .status-allows; day-most = q .day-most; not-before = q .not-before; then-passed = refl }) (p .items-most) (p .credit-most);
-      volumes = zero-add (b .metering .advanced)
+      volumes = zero-add (b .metering .advanced);
     }
 keeps a b w (StoppedCancellation day) p =
     let q = begun (isStopped (a .status)) a day 0 (p .first-passed) in
     record {
       matched = stopped-cancellation-matched a b w day (q .day-most) (q .not-before) (stop a b w (q .status-allows) .facts) (p .items-most) (p .credit-most);
-      volumes = zero-add (b .metering .advanced)
+      volumes = zero-add (b .metering .advanced);
     }
 
 -- A run: account and book belong together, and the first sum holds.
@@ -113,14 +109,14 @@ unfolding asMade
 start-holds =
     record {
       matched =
-        record {
-          metered = record { dial-is = refl; digits-is = refl; pool-is = refl; previous-is = refl; estimates-are = refl; zeros = tt };
-          balanced = record { stored-as = refl; fits = omega arith; kept = record { full = tt; marks = tt; sums = refl } };
-          status-match = refl;
-          facts = refl;
-          load-most = omega arith
-        };
-      volumes = refl
+          record {
+            metered = record { dial-is = refl; digits-is = refl; pool-is = refl; previous-is = refl; estimates-are = refl; zeros = tt };
+            balanced = record { stored-as = refl; fits = omega arith; kept = record { full = tt; marks = tt; sums = refl } };
+            status-match = refl;
+            facts = refl;
+            load-most = omega arith;
+          };
+      volumes = refl;
     }
 
 -- The second sum.
@@ -146,5 +142,5 @@ reconciled calls =
       volumes = h .volumes;
       yen = yen-holds (r .account) (r .book) (h .matched);
       is-whole = unfold whole in (facts-whole (r .account .status) (r .account) (h .matched .facts));
-      declined = declined-leaves r
+      declined = declined-leaves r;
     }

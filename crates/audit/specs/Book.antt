@@ -1,10 +1,9 @@
 -- The book: what a list of calls comes to, from the calls and the numbers that answered them, and nothing of the account.
-use Prim.Native.Nat.{ℕ, suc, _+_, _-_}
 use mathlib.Core.Bool.{Bool, true, false, cond, not, _&&_, _||_}
 use mathlib.Core.List.{List, [], _∷_, _++_, map, reverse}
+use Prim.Native.Nat.{ℕ, suc, _+_, _-_}
 use lib.Dec.{leb, ltb, eqb}
 use lib.IntN.{ℤ, pos, negsuc, subℕ}
-use lib.ListN.{length, getD}
 use Rattle.lists.specs.Sum.{total}
 use Rattle.tariff.specs.declared.Fuel.{Fuel}
 use Rattle.tariff.specs.Price.{priceOf}
@@ -70,7 +69,7 @@ empty =
     record {
       metering = record { dial = 0; digits = 0; start = 0; pool = 0; advanced = 0 };
       periods = [];
-      money = record { entries = []; received = 0; credited = 0; arisen = 0; unentered = 0; is-cancelled = false }
+      money = record { entries = []; received = 0; credited = 0; arisen = 0; unentered = 0; is-cancelled = false };
     }
 
 -- Periods.
@@ -118,7 +117,7 @@ asEstimate period =
       days = period .days;
       fuel = period .fuel;
       volume = period .volume;
-      charged = priceAt period
+      charged = priceAt period;
     }
 
 abbrev pub withVolume : Period → ℕ → Period
@@ -225,7 +224,7 @@ closed m day net =
       credited = m .credited + belowZero net;
       arisen = m .arisen;
       unentered = 0;
-      is-cancelled = m .is-cancelled
+      is-cancelled = m .is-cancelled;
     }
 
 -- Interest not yet entered is entered by itself.
@@ -237,7 +236,7 @@ interestEntered m day =
       credited = m .credited;
       arisen = m .arisen;
       unentered = 0;
-      is-cancelled = m .is-cancelled
+      is-cancelled = m .is-cancelled;
     }
 
 -- A payment adds its yen to yen received.
@@ -249,7 +248,7 @@ received m yen =
       credited = m .credited;
       arisen = m .arisen;
       unentered = m .unentered;
-      is-cancelled = m .is-cancelled
+      is-cancelled = m .is-cancelled;
     }
 
 abbrev pub cancelled : Money → Money
@@ -260,7 +259,7 @@ cancelled m =
       credited = m .credited;
       arisen = m .arisen;
       unentered = m .unentered;
-      is-cancelled = true
+      is-cancelled = true;
     }
 
 abbrev pub paidIn : Money → ℕ
@@ -275,7 +274,7 @@ settled m day =
       credited = m .credited;
       arisen = m .arisen + arising day (paidIn m) 0 (m .entries);
       unentered = m .unentered + arising day (paidIn m) 0 (m .entries);
-      is-cancelled = m .is-cancelled
+      is-cancelled = m .is-cancelled;
     }
 
 -- Last, at every call: items are settled, and from an 08 or 0a on, that one included, interest not yet entered is at once entered as one last item.
@@ -290,7 +289,7 @@ acceptReading b day reading fuel and-then =
     record {
       metering = read (b .metering) day reading;
       periods = periods;
-      money = finished (and-then (closed (b .money) day (netAdded (b .periods) periods))) day
+      money = finished (and-then (closed (b .money) day (netAdded (b .periods) periods))) day;
     }
 
 abbrev pub acceptMiss : Book → ℕ → List Period → Book
@@ -298,7 +297,7 @@ acceptMiss b day periods =
     record {
       metering = missed (b .metering) day;
       periods = periods;
-      money = finished (closed (b .money) day (netAdded (b .periods) periods)) day
+      money = finished (closed (b .money) day (netAdded (b .periods) periods)) day;
     }
 
 abbrev pub acceptMeter : Book → ℕ → Metering → Book

@@ -1,11 +1,10 @@
 -- Demand 3: what holds after every list of calls from a new account, declined ones among them.
-use Prim.Native.Nat.{ℕ, _+_}
 use mathlib.Core.Path.{_≡_}
 use mathlib.Core.Bool.{true}
 use mathlib.Core.List.{List, [], _∷_}
+use Prim.Native.Nat.{ℕ, _+_}
 use lib.ListN.{take}
 use Rattle.lists.specs.Sum.{total, sum}
-use Rattle.meter.specs.declared.Volumes.{Volumes}
 use Rattle.ledger.specs.Settling.{unpaidOf}
 use Rattle.ledger.specs.Posting.{standing}
 use Rattle.account.specs.declared.Account.{Account}
@@ -30,7 +29,7 @@ step r call =
     record {
       account = outcome (r .account) call .account;
       book = enter (r .book) call (outcome (r .account) call .answer .number);
-      answers = outcome (r .account) call .answer ∷ r .answers
+      answers = outcome (r .account) call .answer ∷ r .answers;
     }
 
 unfoldable pub run : Run → List Call → Run

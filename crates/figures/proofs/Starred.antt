@@ -5,10 +5,12 @@ use Rattle.tariff.specs.Bands.{bandOf}
 use Rattle.tariff.specs.Price.{fullMonth, basicCharge, bandVolume, priceIn, priceOf}
 use Rattle.meter.specs.Dial.{span, advance}
 use Rattle.meter.specs.Sharing.{sharedPool, finalVolumes}
+use Rattle.ledger.specs.Interest.{body, interestOn}
+use Rattle.account.specs.Closing.{netOf}
 use Rattle.figures.specs.Starred.{Starred}
 
 pub starred : Starred
-unfolding averagePrice priceChange steps adjustedUnit bandOf fullMonth basicCharge bandVolume priceIn priceOf span advance sharedPool finalVolumes
+unfolding averagePrice priceChange steps adjustedUnit bandOf fullMonth basicCharge bandVolume priceIn priceOf span advance sharedPool finalVolumes body interestOn netOf
 starred =
     record {
       average = refl;
@@ -21,5 +23,6 @@ starred =
       long-period = refl;
       roll-over = refl;
       one-miss = refl;
+      one-miss-net = refl;
       two-misses = refl;
     }

@@ -3,12 +3,17 @@ use mathlib.Core.Path.{_≡_}
 use mathlib.Core.Bool.{false}
 use mathlib.Core.List.{[], _∷_}
 use Prim.Native.Nat.{ℕ}
+use lib.IntN.{negsuc}
 use Rattle.tariff.specs.declared.Fuel.{Fuel}
 use Rattle.tariff.specs.Fuel.{averagePrice, steps, adjustedUnit}
 use Rattle.tariff.specs.Price.{priceOf}
 use Rattle.meter.specs.declared.Estimate.{Estimate}
 use Rattle.meter.specs.Dial.{advance}
 use Rattle.meter.specs.Sharing.{finalVolumes}
+use Rattle.ledger.specs.declared.Kind.the-variants.{Price}
+use Rattle.ledger.specs.Interest.{interestOn}
+use Rattle.ledger.specs.Posting.{newItem}
+use Rattle.account.specs.Closing.{netOf}
 
 abbrev pub fuel : ℕ → ℕ → Fuel
 fuel lng propane = record { lng = lng; propane = propane }
@@ -32,4 +37,7 @@ pub record Starred : Type 0 where
   pub long-period : priceOf 36 still 20 ≡ 5040
   pub roll-over : advance 4 9990 15 ≡ 25
   pub one-miss : finalVolumes (missed ∷ []) 21 ≡ 10 ∷ 11 ∷ []
+  pub one-miss-net : netOf (missed ∷ []) 21 (finalVolumes (missed ∷ []) 21) (priceOf 30 still 11) ≡ negsuc 654
   pub two-misses : finalVolumes (missed ∷ missed ∷ []) 50 ≡ 16 ∷ 17 ∷ 17 ∷ []
+  pub ten-days-late : interestOn (newItem Price 0 4850) 40 ≡ 0
+  pub eleven-days-late : interestOn (newItem Price 0 4850) 41 ≡ 13

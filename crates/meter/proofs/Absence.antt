@@ -1,5 +1,5 @@
 -- Where the pool is shared, the periods of known absence take 0. Assumes nothing.
-use mathlib.Core.Path.{_≡_, refl, ap, _∙_, sym}
+use mathlib.Core.Path.{_≡_, refl}
 use mathlib.Core.Bool.{Bool, true, false, true≢false}
 use mathlib.Core.List.{List, [], _∷_, _++_, map, reverse, reverse-cons, reverse-reverse}
 use Prim.Native.Nat.{ℕ, _+_, _-_}
