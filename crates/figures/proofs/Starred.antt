@@ -25,4 +25,6 @@ starred =
       one-miss = refl;
       one-miss-net = refl;
       two-misses = refl;
+      ten-days-late = refl;
+      eleven-days-late = refl;
     }
