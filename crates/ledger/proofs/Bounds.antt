@@ -6,9 +6,9 @@ use lib.ListN.{length, getD, take}
 use lib.Seq.{getD-take, length-take-le}
 use Rattle.lists.proofs.Every.{every-at}
 use Rattle.ledger.specs.declared.Ledger.{Ledger}
-use Rattle.ledger.specs.Posting.{blank, capacity, ItemBounds, LedgerBounds}
+use Rattle.ledger.specs.Posting.{blank, capacity, ItemBounds, OpenBounds}
 
-module _ (ledger : Ledger) (w : LedgerBounds ledger) (long : length (ledger .items) ≡ capacity) where
+module _ (ledger : Ledger) (w : OpenBounds ledger) (long : length (ledger .items) ≡ capacity) where
   pub open-count : length (take (ledger .count) (ledger .items)) ≡ ledger .count
   open-count = length-take-le (ledger .count) (ledger .items) (omega (arith, w .count-most))
 

@@ -97,9 +97,12 @@ pub record ItemBounds (item : Item) : Type 0 where
   pub unpaid-most : item .unpaid ≤ 1000000000000
   pub price-most : isPrice (item .kind) ≡ true → item .amount ≤ 1000000000
 
-pub record LedgerBounds (ledger : Ledger) : Type 0 where
+pub record OpenBounds (ledger : Ledger) : Type 0 where
   pub count-most : ledger .count ≤ capacity
   pub items-within : Every ItemBounds (take (ledger .count) (ledger .items))
+
+pub record LedgerBounds (ledger : Ledger) : Type 0 where
+  pub open-bounds : OpenBounds ledger
   pub held-most : ledger .held ≤ 1000000000000
   pub credit-most : ledger .credit ≤ 1000000000
 

@@ -8,7 +8,7 @@ ghost use Rattle.lists.specs.Pad.{pad};
 ghost use Rattle.ledger.specs.declared.Item.{Item};
 ghost use Rattle.ledger.specs.Interest.{isPrice, body, interestOn};
 ghost use Rattle.ledger.specs.Settling.{unpaidOf};
-ghost use Rattle.ledger.specs.Posting.{Standing, stored, standing, entered, post, closed, paid, heldPosted, coverage, blank, capacity, chargeOf, creditOf, LedgerBounds, NetBounds, Ready};
+ghost use Rattle.ledger.specs.Posting.{Standing, stored, standing, entered, post, closed, paid, heldPosted, coverage, blank, capacity, chargeOf, creditOf, OpenBounds, LedgerBounds, NetBounds, Ready};
 
 pub enum Kind {
     Interest,
@@ -63,7 +63,7 @@ impl Ledger {
 
     // What is unpaid over all open items.
     pub fn unpaid(self) -> u64
-        requires { ⌜ LedgerBounds self ⌝ }
+        requires { ⌜ OpenBounds self ⌝ }
         ensures { λ r. ⌜ r ≡ unpaidOf (standing self .open-items) ⌝ }
     {
         let count = self.count;

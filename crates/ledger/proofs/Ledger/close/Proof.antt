@@ -34,13 +34,13 @@ paid-is c = rw (credited (c .before)) at (c .pay .ensures)
 
 paid-ready : (c : tie.Start) → Ready (with-credit c)
 unfolding with-credit paid
-paid-ready c = post-ready (c .args .day) (creditOf (c .args .net)) [] (noneHeld (standing (c .args .self))) (every-map ItemBounds (λ item. 1 ≤ item .unpaid) (λ item w. w .unpaid-least) (standing (c .args .self) .open-items) (c .pre .0 .items-within)) tt
+paid-ready c = post-ready (c .args .day) (creditOf (c .args .net)) [] (noneHeld (standing (c .args .self))) (every-map ItemBounds (λ item. 1 ≤ item .unpaid) (λ item w. w .unpaid-least) (standing (c .args .self) .open-items) (c .pre .0 .open-bounds .items-within)) tt
 
 paid-count : (c : tie.Start) → length (with-credit c .open-items) ≤ 72
 unfolding with-credit paid
 paid-count c =
     let long : length (c .args .self .items) ≡ 72 = search (length-of-mapped, needs) in
-    omega (arith, post-count (c .args .day) (creditOf (c .args .net)) [] (noneHeld (standing (c .args .self))), open-count (c .args .self) (c .pre .0) long, c .pre .0 .count-most)
+    omega (arith, post-count (c .args .day) (creditOf (c .args .net)) [] (noneHeld (standing (c .args .self))), open-count (c .args .self) (c .pre .0 .open-bounds) long, c .pre .0 .open-bounds .count-most)
 
 paid-most : (c : tie.After-pay) → c .pay .result .count ≤ 72
 paid-most c = rw (paid-is c) (paid-count (c .before .before))
@@ -65,7 +65,7 @@ credit-of-requires : tie.Need-credit-of-requires
 credit-of-requires c κs = search needs
 
 pay-requires : tie.Need-pay-requires
-pay-requires c κs = (record { count-most = c .before .pre .0 .count-most; items-within = c .before .pre .0 .items-within; held-most = omega arith; credit-most = c .before .pre .0 .credit-most }, (c .before .pre .1 .0, rw (credited c) (c .before .pre .1 .1 .1)))
+pay-requires c κs = (record { open-bounds = record { count-most = c .before .pre .0 .open-bounds .count-most; items-within = c .before .pre .0 .open-bounds .items-within }; held-most = omega arith; credit-most = c .before .pre .0 .credit-most }, (c .before .pre .1 .0, rw (credited c) (c .before .pre .1 .1 .1)))
 
 post-item-requires : tie.Need-post-item-requires
 post-item-requires c κs = (c .before .before .pre .1 .0, omega (arith, paid-most c))

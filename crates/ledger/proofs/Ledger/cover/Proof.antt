@@ -31,13 +31,13 @@ interest-within : (c : tie.After-interest-on Inv-loop μ-loop) → interestOn (g
 interest-within c =
     let s = c .before .before .before .before .before .before .before in
     let long : length (s .args .t1 .items) ≡ 72 = search (length-of-mapped, needs) in
-    interest-most (getD (s .args .t1 .items) (c .before .before .before .before .before .before .loop .i) blank) (s .args .day) (bounds-at (s .args .t1) (s .pre .0) long (c .before .before .before .before .before .before .loop .i) (omega arith) .price-most) (s .pre .1)
+    interest-most (getD (s .args .t1 .items) (c .before .before .before .before .before .before .loop .i) blank) (s .args .day) (bounds-at (s .args .t1) (s .pre .0 .open-bounds) long (c .before .before .before .before .before .before .loop .i) (omega arith) .price-most) (s .pre .1)
 
 loop-holds : tie.Need-loop-holds Inv-loop μ-loop
 loop-holds c = let long : length (c .args .t1 .items) ≡ 72 = search (length-of-mapped, needs) in
     record {
-      most = c .pre .0 .count-most;
-      long = open-count (c .args .t1) (c .pre .0) long;
+      most = c .pre .0 .open-bounds .count-most;
+      long = open-count (c .args .t1) (c .pre .0 .open-bounds) long;
       interest = omega arith;
       covering = covering-first (take (c .args .t1 .count) (c .args .t1 .items)) (c .args .day) (c .args .money);
     }
@@ -51,7 +51,7 @@ element-copy-out-item c = omega (arith, c .before .loop .inv .most)
 interest-on-requires : tie.Need-interest-on-requires Inv-loop μ-loop
 interest-on-requires c κs = let s = c .before .before .before .before .before .before in
     let long : length (s .args .t1 .items) ≡ 72 = search (length-of-mapped, needs) in
-    bounds-at (s .args .t1) (s .pre .0) long (c .before .before .before .before .before .loop .i) (omega arith) .price-most
+    bounds-at (s .args .t1) (s .pre .0 .open-bounds) long (c .before .before .before .before .before .loop .i) (omega arith) .price-most
 
 add-arisen : tie.Need-add-arisen Inv-loop μ-loop
 add-arisen c = omega (arith, interest-within c, c .interest-on .ensures, c .before .before .before .before .before .before .loop .inv .interest, c .before .before .before .before .before .before .loop .inv .most)

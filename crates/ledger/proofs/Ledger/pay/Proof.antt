@@ -13,7 +13,7 @@ use Rattle.ledger.proofs.Ledger.pay.Tie as tie
 count-is : (c : tie.Start) → length (standing (c .args .self) .open-items) ≡ c .args .self .count
 count-is c =
     let long : length (c .args .self .items) ≡ 72 = search (length-of-mapped, needs) in
-    open-count (c .args .self) (c .pre .0) long
+    open-count (c .args .self) (c .pre .0 .open-bounds) long
 
 covered-within : (c : tie.After-cover) → c .cover .result .covered ≤ c .before .before .args .self .count
 covered-within c =
@@ -32,10 +32,10 @@ cover-requires c κs = search needs
 add-held : tie.Need-add-held
 add-held c = let s = c .before .before .before .before in
     let open-list = standing (s .args .self) .open-items in
-    omega (arith, ap (λ r. r .arisen) (c .before .before .cover .ensures), interest-within (s .args .day) (s .args .self .credit + s .args .yen) open-list (s .pre .1 .0) (s .pre .0 .items-within), count-is s, s .pre .0 .count-most, s .pre .0 .held-most)
+    omega (arith, ap (λ r. r .arisen) (c .before .before .cover .ensures), interest-within (s .args .day) (s .args .self .credit + s .args .yen) open-list (s .pre .1 .0) (s .pre .0 .open-bounds .items-within), count-is s, s .pre .0 .open-bounds .count-most, s .pre .0 .held-most)
 
 rest-of-requires : tie.Need-rest-of-requires
-rest-of-requires c κs = (c .before .before .before .before .before .pre .0 .count-most, covered-within (c .before .before .before))
+rest-of-requires c κs = (c .before .before .before .before .before .pre .0 .open-bounds .count-most, covered-within (c .before .before .before))
 
 sub-rest : tie.Need-sub-rest
 sub-rest c = covered-within (c .before .before .before .before .before .before)
@@ -61,7 +61,7 @@ returns-2 : tie.Need-returns-2
 returns-2 c = let s = c .before .before .before .before .before .before .before .before .before .before .before .before in
     let long = count-is s in
     rw (c .before .before .before .before .before .before .rest-of .ensures)
-    (rw long at (paid-part (s .args .day) (s .args .yen) (standing (s .args .self)) (c .before .before .before .before .before .before .before .before .before .before .cover .result) (c .before .before .before .before .before .before .before .before .before .before .cover .ensures) (rw long (s .pre .0 .count-most)) (one-left (c .before .before .before))))
+    (rw long at (paid-part (s .args .day) (s .args .yen) (standing (s .args .self)) (c .before .before .before .before .before .before .before .before .before .before .cover .result) (c .before .before .before .before .before .before .before .before .before .before .cover .ensures) (rw long (s .pre .0 .open-bounds .count-most)) (one-left (c .before .before .before))))
 
 pub pay-spec : {M : Type 1} → statement M
 pay-spec =
