@@ -1,5 +1,5 @@
 -- What a whole account keeps to, as facts about its fields. Assumes nothing.
-use mathlib.Core.Path.{_≡_, refl}
+use mathlib.Core.Path.{_≡_, refl, ap}
 use mathlib.Core.Logic.{_⊎_}
 use mathlib.Core.Bool.{Bool, true, false, cond, _&&_, _||_}
 use Prim.Native.Nat.{ℕ, _+_, _%_, _≤_, _<_}
@@ -21,7 +21,7 @@ use Rattle.account.specs.declared.Status.the-variants.{New, Supplied, St
 use Rattle.account.specs.declared.Account.{Account}
 use Rattle.account.specs.Limits.{within, priceAllowed, fuelAllowed, dayAllowed, digitsAllowed, onDial, volumeAllowed, missesAllowed, itemsAllowed, creditAllowed}
 use Rattle.account.specs.Calls.{standingEstimates}
-use Rattle.account.specs.Whole.{wholeEstimate, wholeItem, wholeLedger, wholeMeter, asMade, wholeStatus, whole}
+use Rattle.account.specs.Whole.{wholeEstimate, wholeItem, wholeLedger, wholeMeter, wholeParts, asMade, wholeStatus, whole}
 use Rattle.account.proofs.Tests.{and-left, and-right, and-intro, within-low, within-high, within-intro, either-zero, zero-either}
 
 pub fuel-within : (fuel : Fuel) → fuelAllowed fuel ≡ true → WithinFuel fuel
@@ -215,10 +215,12 @@ StatusFacts (Supplied start) a = (start ≤ a .latest + 1) × Facts a
 StatusFacts (Stopped stop) a = (stop ≤ a .latest) × Facts a
 StatusFacts Cancelled a = (a .ledger .held ≡ 0) × Facts a
 
-both-parts : (a : Account) (test : Bool) → (test && wholeMeter a && wholeLedger (a .latest) (a .ledger)) ≡ true → (test ≡ true) × Facts a
+both-parts : (a : Account) (test : Bool) → (test && wholeParts a) ≡ true → (test ≡ true) × Facts a
+unfolding wholeParts
 both-parts a test e =
-    let first = and-left (test && wholeMeter a) (wholeLedger (a .latest) (a .ledger)) e in
-    (and-left test (wholeMeter a) first, record { meter = meter-facts a (and-right test (wholeMeter a) first); ledger = ledger-facts (a .latest) (a .ledger) (and-right (test && wholeMeter a) (wholeLedger (a .latest) (a .ledger)) e) })
+    let parts = and-right test (wholeParts a) e in
+    let ledger = wholeLedger (a .latest) (a .ledger) in
+    (and-left test (wholeParts a) e, record { meter = meter-facts a (and-left (wholeMeter a) ledger parts); ledger = ledger-facts (a .latest) (a .ledger) (and-right (wholeMeter a) ledger parts) })
 
 status-facts : (status : Status) (a : Account) → wholeStatus status a ≡ true → StatusFacts status a
 unfolding wholeStatus
@@ -227,13 +229,19 @@ status-facts (Supplied start) a e = let b = both-parts a (leb start (a .latest +
 status-facts (Stopped stop) a e = let b = both-parts a (leb stop (a .latest)) e in (leb-true stop (a .latest) (b .0), b .1)
 status-facts Cancelled a e = let b = both-parts a (eqb (a .ledger .held) 0) e in (eqb-true (a .ledger .held) 0 (b .0), b .1)
 
+-- Wholeness by the status.
+pub whole-of : (a : Account) (status : Status) → a .status ≡ status → whole a ≡ wholeStatus status a
+unfolding whole
+whole-of a status e = ap (λ s. wholeStatus s a) e
+
 -- A whole account has the facts of its status, and one that has them is whole.
 pub whole-facts : (a : Account) → whole a ≡ true → StatusFacts (a .status) a
 unfolding whole
 whole-facts a e = status-facts (a .status) a e
 
-parts-whole : (a : Account) (test : Bool) → test ≡ true → Facts a → (test && wholeMeter a && wholeLedger (a .latest) (a .ledger)) ≡ true
-parts-whole a test t w = and-intro (and-intro t (meter-whole a (w .meter))) (ledger-whole (a .latest) (a .ledger) (w .ledger))
+parts-whole : (a : Account) (test : Bool) → test ≡ true → Facts a → (test && wholeParts a) ≡ true
+unfolding wholeParts
+parts-whole a test t w = and-intro t (and-intro (meter-whole a (w .meter)) (ledger-whole (a .latest) (a .ledger) (w .ledger)))
 
 pub facts-whole : (status : Status) (a : Account) → StatusFacts status a → wholeStatus status a ≡ true
 unfolding wholeStatus

@@ -82,22 +82,35 @@ pub record Bounded (day : ℕ) (s : Standing) : Type 0 where
   pub sound : Sound day s
   pub load-most : load s ≤ 740000000000
 
-module _ (day : ℕ) (s : Standing) (h : day ≤ 36494) (w : Bounded day s) where
-  held-most : s .held ≤ 740000000000
-  held-most = omega (arith, w .load-most)
+pub held-most : (day : ℕ) (s : Standing) → Bounded day s → s .held ≤ 1000000000000
+held-most day s w = omega (arith, w .load-most)
 
-  pub held-facts : Every (ItemFacts day) (entered Interest day (s .held))
-  held-facts = entered-facts Interest day (s .held) h (λ e. absurd (false≢true e)) (omega (arith, held-most))
+pub paid-sound : (day yen : ℕ) (s : Standing) → Every (ItemFacts day) (s .open-items) → Sound day (paid day yen s)
+unfolding paid
+paid-sound day yen s old = post-sound day yen [] s old tt
+
+pub paid-bounded : (day yen : ℕ) (s : Standing) → day ≤ 36494 → Bounded day s → Bounded day (paid day yen s)
+unfolding paid
+paid-bounded day yen s h w =
+    record {
+      sound = post-sound day yen [] s (w .sound .items) tt;
+      load-most = omega (arith, post-load day yen [] s h (w .sound .items) tt, w .load-most);
+    }
+
+-- Interest held is posted.
+module _ (day : ℕ) (s : Standing) (h : day ≤ 36494) (old : Every (ItemFacts day) (s .open-items)) (held : s .held ≤ 1000000000000) where
+  held-facts : Every (ItemFacts day) (entered Interest day (s .held))
+  held-facts = entered-facts Interest day (s .held) h (λ e. absurd (false≢true e)) held
 
   pub closed-bounded : (net : ℤ) → chargeOf net ≤ 1000000000 → length (s .open-items) ≤ 72 → Bounded day (closed day net s)
   unfolding closed
   closed-bounded net charge places =
       record {
-        sound = post-sound day (creditOf net) (entered Interest day (s .held) ++ entered Price day (chargeOf net)) (noneHeld s) (w .sound .items) posted;
+        sound = post-sound day (creditOf net) (entered Interest day (s .held) ++ entered Price day (chargeOf net)) (noneHeld s) old posted;
         load-most =
             omega (
               arith,
-              post-load day (creditOf net) (entered Interest day (s .held) ++ entered Price day (chargeOf net)) (noneHeld s) h (w .sound .items) posted,
+              post-load day (creditOf net) (entered Interest day (s .held) ++ entered Price day (chargeOf net)) (noneHeld s) h old posted,
               length-append (entered Interest day (s .held)) (entered Price day (chargeOf net)),
               entered-count Interest day (s .held),
               entered-count Price day (chargeOf net),
@@ -107,17 +120,9 @@ module _ (day : ℕ) (s : Standing) (h : day ≤ 36494) (w : Bounded day s) wher
       posted : Every (ItemFacts day) (entered Interest day (s .held) ++ entered Price day (chargeOf net))
       posted = every-append (ItemFacts day) (entered Interest day (s .held)) (entered Price day (chargeOf net)) held-facts (entered-facts Price day (chargeOf net) h (λ _. charge) (omega arith))
 
-  pub paid-bounded : (yen : ℕ) → Bounded day (paid day yen s)
-  unfolding paid
-  paid-bounded yen =
-      record {
-        sound = post-sound day yen [] s (w .sound .items) tt;
-        load-most = omega (arith, post-load day yen [] s h (w .sound .items) tt, w .load-most);
-      }
-
   pub posted-sound : Sound day (heldPosted day s)
   unfolding heldPosted
-  posted-sound = post-sound day 0 (entered Interest day (s .held)) (noneHeld s) (w .sound .items) held-facts
+  posted-sound = post-sound day 0 (entered Interest day (s .held)) (noneHeld s) old held-facts
 
 -- A standing that is stored.
 pub stored-facts : (day : ℕ) (s : Standing) → Sound day s → length (s .open-items) ≤ 72 → s .credit ≤ 999999999 → s .held ≤ 1000000000000 → standing (stored s) ≡ s → LedgerFacts day (stored s)

@@ -63,12 +63,16 @@ wholeMeter a =
     missesAllowed (a .estimates .count) &&
     every wholeEstimate (standingEstimates a)
 
+-- What is asked of every account but a new one.
+unfoldable pub wholeParts : Account → Bool
+wholeParts a = wholeMeter a && wholeLedger (a .latest) (a .ledger)
+
 -- The period start passes the latest day by at most one, the stop day does not pass it, and nothing is held once cancelled.
 unfoldable pub wholeStatus : Status → Account → Bool
 wholeStatus New a = asMade a
-wholeStatus (Supplied start) a = leb start (a .latest + 1) && wholeMeter a && wholeLedger (a .latest) (a .ledger)
-wholeStatus (Stopped stop) a = leb stop (a .latest) && wholeMeter a && wholeLedger (a .latest) (a .ledger)
-wholeStatus Cancelled a = eqb (a .ledger .held) 0 && wholeMeter a && wholeLedger (a .latest) (a .ledger)
+wholeStatus (Supplied start) a = leb start (a .latest + 1) && wholeParts a
+wholeStatus (Stopped stop) a = leb stop (a .latest) && wholeParts a
+wholeStatus Cancelled a = eqb (a .ledger .held) 0 && wholeParts a
 
 unfoldable pub whole : Account → Bool
 whole a = wholeStatus (a .status) a

@@ -23,6 +23,7 @@ use Rattle.ledger.specs.Settling.{settle, unpaidOf}
 use Rattle.ledger.specs.Posting
 use Rattle.ledger.specs.Posting.{Standing, standing, stored, entered, post, paid, heldPosted, chargeOf, creditOf, blank, capacity}
 use Rattle.ledger.proofs.Settling.{Once, twice-once, day-left, day-open, conserved}
+use Rattle.ledger.proofs.Bounds.{standing-stored}
 use Rattle.audit.specs.Book
 use Rattle.audit.specs.Book.{Entry, Money, enteredAs, marked, arising, aboveZero, belowZero, paidIn, settled, received, interestEntered, finished}
 use Rattle.audit.proofs.Entries.{itemsOf, FullEntry, Marks, Unmarked, arising-is, marks-sooner, marks-marked, items-marked, full-marked, amounts, amounts-marked, none-arising, marks-append}
@@ -48,12 +49,6 @@ pub record Balanced (ledger : Ledger) (m : Money) (priced : ℕ) : Type 0 where
   pub stored-as : ledger ≡ stored (onLedger m)
   pub fits : length (onLedger m .open-items) ≤ capacity
   pub kept : Kept m priced
-
--- What is stored and fits is what stands.
-pub standing-stored : (s : Standing) → length (s .open-items) ≤ capacity → standing (stored s) ≡ s
-standing-stored s h =
-    let all : take capacity (s .open-items) ≡ s .open-items = take-all capacity (s .open-items) h in
-    rw all (λ i. record { open-items = take-pad blank capacity (s .open-items) i; credit = s .credit; held = s .held })
 
 pub standing-is : {ledger : Ledger} {m : Money} {priced : ℕ} → Balanced ledger m priced → standing ledger ≡ onLedger m
 standing-is {ledger} {m} w = ap standing (w .stored-as) ∙ standing-stored (onLedger m) (w .fits)

@@ -18,11 +18,12 @@ use Rattle.account.specs.Closing.{startOf, daysOf, storedEstimates}
 use Rattle.account.specs.Calls.{standingEstimates, estimateOf, missed}
 use Rattle.account.proofs.Facts.{EstimateFacts, MeterFacts}
 use Rattle.account.proofs.Passed.{MissPassed}
-use Rattle.account.proofs.Sound.{Bounded, closed-bounded, stored-facts}
+use Rattle.account.proofs.Sound.{Bounded, held-most, closed-bounded, stored-facts}
 use Rattle.account.proofs.Nets.{billable}
+use Rattle.ledger.proofs.Bounds.{standing-stored}
 use Rattle.audit.specs.Book
 use Rattle.audit.specs.Book.{Book, Closing, Money, Period, isReading, isAbsence, asEstimate, estimates, prices, priceAt, newPeriod, netAdded, settled, finished, acceptMiss}
-use Rattle.audit.proofs.Balance.{Kept, onLedger, standing-is, standing-stored, closed-is, closed-kept, finished-open}
+use Rattle.audit.proofs.Balance.{Kept, onLedger, standing-is, closed-is, closed-kept, finished-open}
 use Rattle.audit.proofs.Periods.{difference, sub-added}
 use Rattle.audit.proofs.Matching.{Matched, Supply, supply, estimates-stand}
 use Rattle.audit.proofs.Readings.{bounded}
@@ -82,11 +83,14 @@ module _ (a : Account) (b : Book) (w : Matched a b) (day : ℕ) (fuel : Fuel) (p
   unfolding charged
   charged-within = price-most (daysOf (startOf (a .status)) day) fuel volume (billable (daysOf (startOf (a .status)) day) fuel volume (p .some-day) days-most (p .fuel-allowed) within)
 
+  before : Bounded day (onLedger (b .money))
+  before = bounded a b w day (p .not-before) (supplied .facts)
+
   after-bounded : Bounded day afterLedger
   unfolding afterLedger
   after-bounded =
       rw (standing-is (w .balanced))
-      (closed-bounded day (onLedger (b .money)) (p .day-most) (bounded a b w day (p .not-before) (supplied .facts)) (pos charged) (omega (arith, charged-within)) (w .balanced .fits))
+      (closed-bounded day (onLedger (b .money)) (p .day-most) (before .sound .items) (held-most day (onLedger (b .money)) before) (pos charged) (omega (arith, charged-within)) (w .balanced .fits))
 
   finished-is : finished (Book.closed (b .money) day net) day ≡ money
   unfolding money

@@ -13,9 +13,10 @@ use Rattle.account.specs.Calls.{withLedger, isCancelled, paidLedger, payment, s
 use Rattle.account.specs.Refusals.{isNew}
 use Rattle.account.proofs.Facts.{Facts, StatusFacts}
 use Rattle.account.proofs.Passed.{Begun}
-use Rattle.account.proofs.Sound.{Bounded, Sound, paid-bounded, posted-sound, stored-facts}
+use Rattle.account.proofs.Sound.{Bounded, Sound, held-most, paid-bounded, posted-sound, stored-facts}
+use Rattle.ledger.proofs.Bounds.{standing-stored}
 use Rattle.audit.specs.Book.{Book, Money, prices, settled, received, interestEntered, cancelled, finished, acceptMoney}
-use Rattle.audit.proofs.Balance.{Kept, onLedger, standing-is, standing-stored, paid-is, paid-kept, entered-is, entered-kept, quiet-kept, nothing-waits, finished-open, finished-cancelled}
+use Rattle.audit.proofs.Balance.{Kept, onLedger, standing-is, paid-is, paid-kept, entered-is, entered-kept, quiet-kept, nothing-waits, finished-open, finished-cancelled}
 use Rattle.audit.proofs.Matching.{Metered, Matched, StatusMatch, stop}
 use Rattle.audit.proofs.Readings.{bounded}
 
@@ -72,7 +73,7 @@ module _ (a : Account) (b : Book) (w : Matched a b) (day : ℕ) (day-most : day 
     ledger-is = ap (paid day yen) (standing-is (w .balanced)) ∙ paid-is day yen (b .money) (prices (b .periods)) (w .balanced .kept)
 
     after-bounded : Bounded day (paidLedger a day yen)
-    after-bounded = rw (standing-is (w .balanced)) (paid-bounded day (onLedger (b .money)) day-most before yen)
+    after-bounded = rw (standing-is (w .balanced)) (paid-bounded day yen (onLedger (b .money)) day-most before)
 
     match-after : (status : Status) → isCancelled status ≡ false → StatusMatch status b → StatusMatch status (record { metering = b .metering; periods = b .periods; money = money })
     unfolding money
@@ -119,7 +120,7 @@ module _ (a : Account) (b : Book) (w : Matched a b) (day : ℕ) (day-most : day 
           metered = metered-after Cancelled (stored (heldPosted day (paidLedger a day yen))) (interestEntered money day);
           balanced = record { stored-as = ap stored posted-is; fits = rw posted-is at items-most; kept = entered-kept day money (prices (b .periods)) kept };
           status-match = (refl, book-cancelled);
-          facts = (none-held, facts-after Cancelled (heldPosted day (paidLedger a day yen)) (posted-sound day (paidLedger a day yen) day-most after-bounded) items-most credit-most (omega (arith, none-held)));
+          facts = (none-held, facts-after Cancelled (heldPosted day (paidLedger a day yen)) (posted-sound day (paidLedger a day yen) day-most (after-bounded .sound .items) (held-most day (paidLedger a day yen) after-bounded)) items-most credit-most (omega (arith, none-held)));
           load-most = omega (arith, rw posted-is at items-most);
         })
 
@@ -141,7 +142,7 @@ module _ (a : Account) (b : Book) (w : Matched a b) (day : ℕ) (day-most : day 
   ended-none = ap (λ s. s .held) ended-is
 
   ended-sound : Sound day (heldPosted day (standing (a .ledger)))
-  ended-sound = rw (standing-is (w .balanced)) (posted-sound day (onLedger (b .money)) day-most before)
+  ended-sound = rw (standing-is (w .balanced)) (posted-sound day (onLedger (b .money)) day-most (before .sound .items) (held-most day (onLedger (b .money)) before))
 
   pub stopped-cancellation-matched : length (heldPosted day (standing (a .ledger)) .open-items) ≤ 72 → heldPosted day (standing (a .ledger)) .credit ≤ 999999999
       → Matched (stoppedCancellation a day .account) (acceptMoney b day (cancelled (interestEntered (b .money) day)))

@@ -24,12 +24,13 @@ use Rattle.account.specs.Calls
 use Rattle.account.specs.Calls.{standingEstimates, poolTo, madeFinal, closingPrice, closingNet, closedLedger, afterReading}
 use Rattle.account.proofs.Facts.{ItemFacts, MeterFacts, LedgerFacts, Facts, StatusFacts}
 use Rattle.account.proofs.Passed.{ReadingPassed}
-use Rattle.account.proofs.Sound.{item-later, Bounded, closed-bounded, posted-sound, stored-facts}
+use Rattle.account.proofs.Sound.{item-later, Bounded, held-most, closed-bounded, posted-sound, stored-facts}
 use Rattle.account.proofs.Nets.{billable, this-within, charge-most}
+use Rattle.ledger.proofs.Bounds.{standing-stored}
 use Rattle.audit.specs.Book
 use Rattle.audit.specs.Book.{Book, Money, Period, byReading, estimates, prices, priceAt, lastOf, newPeriod, poolWith, withReading, netAdded, paidIn, settled, finished, interestEntered, cancelled, read, acceptReading}
 use Rattle.audit.proofs.Entries.{itemsOf}
-use Rattle.audit.proofs.Balance.{Balanced, Kept, onLedger, standing-is, standing-stored, closed-is, closed-kept, entered-is, entered-kept, finished-open}
+use Rattle.audit.proofs.Balance.{Balanced, Kept, onLedger, standing-is, closed-is, closed-kept, entered-is, entered-kept, finished-open}
 use Rattle.audit.proofs.Periods.{given, difference, last-is, net-added, zeros-after}
 use Rattle.audit.proofs.Matching.{Metered, Matched, StatusMatch, Supply, supply, estimates-stand}
 
@@ -112,7 +113,7 @@ module _ (a : Account) (b : Book) (w : Matched a b) (day reading : ℕ) (fuel : 
 
   after-bounded : Bounded day (closedLedger a day reading fuel)
   after-bounded =
-      rw (standing-is (w .balanced)) (closed-bounded day (onLedger (b .money)) (p .day-most) before (closingNet a day reading fuel) (omega (arith, charge-within)) (w .balanced .fits))
+      rw (standing-is (w .balanced)) (closed-bounded day (onLedger (b .money)) (p .day-most) (before .sound .items) (held-most day (onLedger (b .money)) before) (closingNet a day reading fuel) (omega (arith, charge-within)) (w .balanced .fits))
 
   -- What the account keeps to after the reading.
   meter-after : (status : Status) (ledger : Ledger) → MeterFacts (afterReading a day reading fuel status ledger)
@@ -192,7 +193,7 @@ module _ (a : Account) (b : Book) (w : Matched a b) (day reading : ℕ) (fuel : 
 
     ledger-after : LedgerFacts day (stored (heldPosted day (closedLedger a day reading fuel)))
     ledger-after =
-        stored-facts day (heldPosted day (closedLedger a day reading fuel)) (posted-sound day (closedLedger a day reading fuel) (p .day-most) after-bounded) items-most credit-most (omega (arith, none-held)) (standing-stored (heldPosted day (closedLedger a day reading fuel)) items-most)
+        stored-facts day (heldPosted day (closedLedger a day reading fuel)) (posted-sound day (closedLedger a day reading fuel) (p .day-most) (after-bounded .sound .items) (held-most day (closedLedger a day reading fuel) after-bounded)) items-most credit-most (omega (arith, none-held)) (standing-stored (heldPosted day (closedLedger a day reading fuel)) items-most)
 
     pub cancellation-matched : Matched (Calls.cancelled a day reading fuel .account) (acceptReading b day reading fuel cancelled)
     unfolding periods net money

@@ -1,12 +1,25 @@
--- What the bounds of a ledger say at each of its open items. Assumes nothing.
-use mathlib.Core.Path.{_≡_}
-use Prim.Native.Nat.{ℕ, _<_}
+-- What a ledger holds: what stands on it, and its bounds at each open item. Assumes nothing.
+use mathlib.Core.Path.{_≡_, sym, subst}
+use Prim.Native.Nat.{ℕ, _≤_, _<_}
 use native.Mathlib.Omega.{arith}
 use lib.ListN.{length, getD, take}
-use lib.Seq.{getD-take, length-take-le}
+use lib.Seq.{getD-take, length-take-le, take-all}
+use Rattle.lists.specs.Every.{Every}
 use Rattle.lists.proofs.Every.{every-at}
+use Rattle.lists.proofs.Pad.{take-pad}
 use Rattle.ledger.specs.declared.Ledger.{Ledger}
-use Rattle.ledger.specs.Posting.{blank, capacity, ItemBounds, OpenBounds}
+use Rattle.ledger.specs.Posting.{Standing, standing, stored, blank, capacity, ItemBounds, OpenBounds}
+
+-- What is stored and fits is what stands.
+pub standing-stored : (s : Standing) → length (s .open-items) ≤ capacity → standing (stored s) ≡ s
+standing-stored s h =
+    let all : take capacity (s .open-items) ≡ s .open-items = take-all capacity (s .open-items) h in
+    rw all (λ i. record { open-items = take-pad blank capacity (s .open-items) i; credit = s .credit; held = s .held })
+
+-- The bounds of what is stored are those of its items.
+pub stored-bounds : (s : Standing) → Every ItemBounds (s .open-items) → length (s .open-items) ≤ capacity → OpenBounds (stored s)
+stored-bounds s w h =
+    record { count-most = h; items-within = subst (λ (x : Standing). Every ItemBounds (x .open-items)) (sym (standing-stored s h)) w }
 
 module _ (ledger : Ledger) (w : OpenBounds ledger) (long : length (ledger .items) ≡ capacity) where
   pub open-count : length (take (ledger .count) (ledger .items)) ≡ ledger .count

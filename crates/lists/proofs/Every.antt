@@ -1,10 +1,10 @@
 -- What holds of every element of a list. Assumes nothing.
 use mathlib.Core.Path.{_≡_, refl}
-use mathlib.Core.Bool.{Bool, true, and-eq-true-iff}
+use mathlib.Core.Bool.{Bool, true, false, and-eq-true-iff, and-false}
 use mathlib.Core.List.{List, [], _∷_, _++_, reverse, reverse-cons}
 use Prim.Native.Nat.{ℕ, zero, suc, _<_}
 use native.Mathlib.Nat.{not-suc-le-zero, le-of-suc-le-suc}
-use lib.ListN.{length, getD}
+use lib.ListN.{length, getD, take}
 use Rattle.lists.specs.Every.{every, Every}
 
 module _ {A : Type 0} (P : A → Type 0) where
@@ -33,6 +33,21 @@ module _ {A : Type 0} (test : A → Bool) where
   pub true-every : (xs : List A) → Every (λ x. test x ≡ true) xs → every test xs ≡ true
   true-every [] e = refl
   true-every (x ∷ xs) e = and-eq-true-iff (test x) (every test xs) .1 (e .0, true-every xs (e .1))
+
+-- The test over a front of a list, one element after another.
+module _ {A : Type 0} (test : A → Bool) where
+  pub every-next : (xs : List A) (i : ℕ) (d : A) → i < length xs → every test (take i xs) ≡ true → test (getD xs i d) ≡ true → every test (take (suc i) xs) ≡ true
+  every-next [] i d h front e = refl
+  every-next (x ∷ xs) zero d h front e = rw e refl
+  every-next (x ∷ xs) (suc i) d h front e =
+      let both = and-eq-true-iff (test x) (every test (take i xs)) .0 front in
+      and-eq-true-iff (test x) (every test (take (suc i) xs)) .1 (both .0, every-next xs i d (le-of-suc-le-suc h) (both .1) e)
+
+  pub every-fails : (xs : List A) (n i : ℕ) (d : A) → i < n → i < length xs → test (getD xs i d) ≡ false → every test (take n xs) ≡ false
+  every-fails [] n i d l h e = absurd (not-suc-le-zero h)
+  every-fails (x ∷ xs) zero i d l h e = absurd (not-suc-le-zero l)
+  every-fails (x ∷ xs) (suc n) zero d l h e = rw e refl
+  every-fails (x ∷ xs) (suc n) (suc i) d l h e = rw (every-fails xs n i d (le-of-suc-le-suc l) (le-of-suc-le-suc h) e) (and-false (test x))
 
 pub every-reverse : {A : Type 0} (P : A → Type 0) (xs : List A) → Every P xs → Every P (reverse xs)
 every-reverse P [] e = tt
