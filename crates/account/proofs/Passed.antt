@@ -1,6 +1,6 @@
 -- What an accepted call has passed. Assumes nothing.
 use mathlib.Core.Path.{_≡_, refl}
-use mathlib.Core.Bool.{Bool, true, false, _&&_}
+use mathlib.Core.Bool.{Bool, true, false, _&&_, not}
 use Prim.Native.Nat.{ℕ, suc, _+_, _≤_, _<_}
 use native.Mathlib.Nat.{suc-ne-zero}
 use native.Mathlib.Omega.{arith}
@@ -10,11 +10,11 @@ use Rattle.tariff.specs.declared.Fuel.{Fuel}
 use Rattle.meter.specs.Dial.{span, advance, withinHalf, Digits}
 use Rattle.account.specs.declared.Account.{Account}
 use Rattle.account.specs.declared.Call.{Call}
-use Rattle.account.specs.Limits.{dayAllowed, digitsAllowed, onDial, fuelAllowed, missesAllowed, volumeAllowed, itemsAllowed, creditAllowed}
+use Rattle.account.specs.Limits.{dayAllowed, digitsAllowed, onDial, fuelAllowed, missesAllowed, volumeAllowed, paymentAllowed, itemsAllowed, creditAllowed}
 use Rattle.account.specs.Closing.{startOf, daysOf}
 use Rattle.account.specs.Calls.{work, poolTo}
 use Rattle.account.specs.Whole.{whole}
-use Rattle.account.specs.Refusals.{unless, isSupplied, begins, advances, someDay, readingRefusal, missRefusal, dialRefusal, firstRefusal, lastRefusal, orElse, refusal}
+use Rattle.account.specs.Refusals.{unless, isNew, isSupplied, begins, advances, someDay, readingRefusal, missRefusal, dialRefusal, exchangeRefusal, paymentRefusal, firstRefusal, lastRefusal, orElse, refusal}
 use Rattle.account.proofs.Tests.{and-left, and-right, within-low, within-high}
 
 -- A chain that comes to 0 has passed its first test, and the others come to 0.
@@ -32,18 +32,18 @@ or-else number others e = go (ltb 0 number) refl
         never z = omega (arith, ltb-true 0 number t)
     go false t = (omega (arith, ltb-false 0 number t), rw t at e)
 
-pub record Begun (allowed : Bool) (a : Account) (day others : ℕ) : Type 0 where
+pub record Begun (allowed : Bool) (latest day others : ℕ) : Type 0 where
   pub status-allows : allowed ≡ true
   pub day-most : day ≤ 36494
-  pub not-before : a .latest ≤ day
+  pub not-before : latest ≤ day
   pub then-passed : others ≡ 0
 
-pub begun : (allowed : Bool) (a : Account) (day others : ℕ) → begins allowed a day others ≡ 0 → Begun allowed a day others
-begun allowed a day others e =
-    let one = passes allowed 0 (unless (dayAllowed day) 2 (unless (leb (a .latest) day) 3 others)) e in
-    let two = passes (dayAllowed day) 1 (unless (leb (a .latest) day) 3 others) (one .1) in
-    let three = passes (leb (a .latest) day) 2 others (two .1) in
-    record { status-allows = one .0; day-most = leb-true day 36494 (two .0); not-before = leb-true (a .latest) day (three .0); then-passed = three .1 }
+pub begun : (allowed : Bool) (latest day others : ℕ) → begins allowed latest day others ≡ 0 → Begun allowed latest day others
+begun allowed latest day others e =
+    let one = passes allowed 0 (unless (dayAllowed day) 2 (unless (leb latest day) 3 others)) e in
+    let two = passes (dayAllowed day) 1 (unless (leb latest day) 3 others) (one .1) in
+    let three = passes (leb latest day) 2 others (two .1) in
+    record { status-allows = one .0; day-most = leb-true day 36494 (two .0); not-before = leb-true latest day (three .0); then-passed = three .1 }
 
 -- 02, 06 and 08.
 pub record ReadingPassed (a : Account) (day reading : ℕ) (fuel : Fuel) : Type 0 where
@@ -69,7 +69,7 @@ advanced a reading e =
 pub reading-passed : (a : Account) (day reading : ℕ) (fuel : Fuel) → readingRefusal a day reading fuel ≡ 0 → ReadingPassed a day reading fuel
 reading-passed a day reading fuel e =
     let rest = unless (onDial (a .digits) reading) 5 (unless (fuelAllowed fuel) 6 (unless (someDay a day) 7 (advances a reading))) in
-    let b = begun (isSupplied (a .status)) a day rest e in
+    let b = begun (isSupplied (a .status)) (a .latest) day rest e in
     let five = passes (onDial (a .digits) reading) 4 (unless (fuelAllowed fuel) 6 (unless (someDay a day) 7 (advances a reading))) (b .then-passed) in
     let six = passes (fuelAllowed fuel) 5 (unless (someDay a day) 7 (advances a reading)) (five .1) in
     let seven = passes (someDay a day) 6 (advances a reading) (six .1) in
@@ -97,7 +97,7 @@ pub record MissPassed (a : Account) (day : ℕ) (fuel : Fuel) : Type 0 where
 pub miss-passed : (a : Account) (day : ℕ) (fuel : Fuel) → missRefusal a day fuel ≡ 0 → MissPassed a day fuel
 miss-passed a day fuel e =
     let rest = unless (fuelAllowed fuel) 6 (unless (someDay a day) 7 (unless (missesAllowed (a .estimates .count + 1)) 8 0)) in
-    let b = begun (isSupplied (a .status)) a day rest e in
+    let b = begun (isSupplied (a .status)) (a .latest) day rest e in
     let six = passes (fuelAllowed fuel) 5 (unless (someDay a day) 7 (unless (missesAllowed (a .estimates .count + 1)) 8 0)) (b .then-passed) in
     let seven = passes (someDay a day) 6 (unless (missesAllowed (a .estimates .count + 1)) 8 0) (six .1) in
     let eight = passes (missesAllowed (a .estimates .count + 1)) 7 0 (seven .1) in
@@ -120,7 +120,7 @@ pub record DialPassed (allowed : Bool) (a : Account) (day reading digits : ℕ) 
 
 pub dial-passed : (allowed : Bool) (a : Account) (day reading digits : ℕ) → dialRefusal allowed a day reading digits ≡ 0 → DialPassed allowed a day reading digits
 dial-passed allowed a day reading digits e =
-    let b = begun allowed a day (unless (digitsAllowed digits) 4 (unless (onDial digits reading) 5 0)) e in
+    let b = begun allowed (a .latest) day (unless (digitsAllowed digits) 4 (unless (onDial digits reading) 5 0)) e in
     let four = passes (digitsAllowed digits) 3 (unless (onDial digits reading) 5 0) (b .then-passed) in
     let five = passes (onDial digits reading) 4 0 (four .1) in
     record {
@@ -142,9 +142,9 @@ pub record ExchangePassed (a : Account) (day old new digits : ℕ) : Type 0 wher
   pub within-half : withinHalf (a .digits) (advance (a .digits) (a .dial) old) ≡ true
   pub pool-most : poolTo a old ≤ 99999
 
-pub exchange-passed : (a : Account) (day old new digits : ℕ) → begins (isSupplied (a .status)) a day (unless (digitsAllowed digits) 4 (unless (onDial (a .digits) old && onDial digits new) 5 (advances a old))) ≡ 0 → ExchangePassed a day old new digits
+pub exchange-passed : (a : Account) (day old new digits : ℕ) → exchangeRefusal a day old new digits ≡ 0 → ExchangePassed a day old new digits
 exchange-passed a day old new digits e =
-    let b = begun (isSupplied (a .status)) a day (unless (digitsAllowed digits) 4 (unless (onDial (a .digits) old && onDial digits new) 5 (advances a old))) e in
+    let b = begun (isSupplied (a .status)) (a .latest) day (unless (digitsAllowed digits) 4 (unless (onDial (a .digits) old && onDial digits new) 5 (advances a old))) e in
     let four = passes (digitsAllowed digits) 3 (unless (onDial (a .digits) old && onDial digits new) 5 (advances a old)) (b .then-passed) in
     let five = passes (onDial (a .digits) old && onDial digits new) 4 (advances a old) (four .1) in
     let last = advanced a old (five .1) in
@@ -157,6 +157,24 @@ exchange-passed a day old new digits e =
       new-on-dial = ltb-true new (span digits) (and-right (onDial (a .digits) old) (onDial digits new) (five .0));
       within-half = last .half;
       pool-most = last .pool;
+    }
+
+-- 09.
+pub record PaymentPassed (a : Account) (day yen : ℕ) : Type 0 where
+  pub not-new : not (isNew (a .status)) ≡ true
+  pub day-most : day ≤ 36494
+  pub not-before : a .latest ≤ day
+  pub yen-most : yen ≤ 99999999
+
+pub payment-passed : (a : Account) (day yen : ℕ) → paymentRefusal a day yen ≡ 0 → PaymentPassed a day yen
+payment-passed a day yen e =
+    let b = begun (not (isNew (a .status))) (a .latest) day (unless (paymentAllowed yen) 11 0) e in
+    let eleven = passes (paymentAllowed yen) 10 0 (b .then-passed) in
+    record {
+      not-new = b .status-allows;
+      day-most = b .day-most;
+      not-before = b .not-before;
+      yen-most = within-high 1 99999999 yen (eleven .0);
     }
 
 -- 41 and 12 and 13, of any call.

@@ -38,8 +38,8 @@ isStopped (Stopped stop) = true
 isStopped Cancelled = false
 
 -- 1 to 3: the status allows the call, the day is one that calls take, and no accepted call was later.
-abbrev pub begins : Bool → Account → ℕ → ℕ → ℕ
-begins allowed a day others = unless allowed 1 (unless (dayAllowed day) 2 (unless (leb (a .latest) day) 3 others))
+abbrev pub begins : Bool → ℕ → ℕ → ℕ → ℕ
+begins allowed latest day others = unless allowed 1 (unless (dayAllowed day) 2 (unless (leb latest day) 3 others))
 
 -- 9 and 10: the advance is at most half the span, and the pool at most 99,999.
 abbrev pub advances : Account → ℕ → ℕ
@@ -53,19 +53,29 @@ someDay a day = ltb 0 (daysOf (startOf (a .status)) day)
 -- 02, 06 and 08.
 abbrev pub readingRefusal : Account → ℕ → ℕ → Fuel → ℕ
 readingRefusal a day reading fuel =
-    begins (isSupplied (a .status)) a day
+    begins (isSupplied (a .status)) (a .latest) day
     (unless (onDial (a .digits) reading) 5 (unless (fuelAllowed fuel) 6 (unless (someDay a day) 7 (advances a reading))))
 
 -- 03 and 04.
 abbrev pub missRefusal : Account → ℕ → Fuel → ℕ
 missRefusal a day fuel =
-    begins (isSupplied (a .status)) a day
+    begins (isSupplied (a .status)) (a .latest) day
     (unless (fuelAllowed fuel) 6 (unless (someDay a day) 7 (unless (missesAllowed (a .estimates .count + 1)) 8 0)))
 
 -- 01 and 07.
 abbrev pub dialRefusal : Bool → Account → ℕ → ℕ → ℕ → ℕ
 dialRefusal allowed a day reading digits =
-    begins allowed a day (unless (digitsAllowed digits) 4 (unless (onDial digits reading) 5 0))
+    begins allowed (a .latest) day (unless (digitsAllowed digits) 4 (unless (onDial digits reading) 5 0))
+
+-- 05.
+abbrev pub exchangeRefusal : Account → ℕ → ℕ → ℕ → ℕ → ℕ
+exchangeRefusal a day old new digits =
+    begins (isSupplied (a .status)) (a .latest) day
+    (unless (digitsAllowed digits) 4 (unless (onDial (a .digits) old && onDial digits new) 5 (advances a old)))
+
+-- 09.
+abbrev pub paymentRefusal : Account → ℕ → ℕ → ℕ
+paymentRefusal a day yen = begins (not (isNew (a .status))) (a .latest) day (unless (paymentAllowed yen) 11 0)
 
 -- The causes that need no work done, 1 to 11.
 unfoldable pub firstRefusal : Account → Call → ℕ
@@ -73,14 +83,12 @@ firstRefusal a (Opening day reading digits) = dialRefusal (isNew (a .status)) a 
 firstRefusal a (Reading day reading fuel) = readingRefusal a day reading fuel
 firstRefusal a (Missed day fuel) = missRefusal a day fuel
 firstRefusal a (Absent day fuel) = missRefusal a day fuel
-firstRefusal a (Exchange day old new digits) =
-    begins (isSupplied (a .status)) a day
-    (unless (digitsAllowed digits) 4 (unless (onDial (a .digits) old && onDial digits new) 5 (advances a old)))
+firstRefusal a (Exchange day old new digits) = exchangeRefusal a day old new digits
 firstRefusal a (Disconnection day reading fuel) = readingRefusal a day reading fuel
 firstRefusal a (Reconnection day reading digits) = dialRefusal (isStopped (a .status)) a day reading digits
 firstRefusal a (Cancellation day reading fuel) = readingRefusal a day reading fuel
-firstRefusal a (Payment day yen) = begins (not (isNew (a .status))) a day (unless (paymentAllowed yen) 11 0)
-firstRefusal a (StoppedCancellation day) = begins (isStopped (a .status)) a day 0
+firstRefusal a (Payment day yen) = paymentRefusal a day yen
+firstRefusal a (StoppedCancellation day) = begins (isStopped (a .status)) (a .latest) day 0
 
 -- 12 and 13: what would be open, and the credit, when the call ends.
 abbrev pub lastRefusal : Ledger → ℕ

@@ -12,7 +12,7 @@ use Rattle.account.specs.declared.Account.{Account}
 use Rattle.account.specs.Calls.{withLedger, isCancelled, paidLedger, payment, stoppedCancellation}
 use Rattle.account.specs.Refusals.{isNew}
 use Rattle.account.proofs.Facts.{Facts, StatusFacts}
-use Rattle.account.proofs.Passed.{Begun}
+use Rattle.account.proofs.Passed.{PaymentPassed}
 use Rattle.account.proofs.Sound.{Bounded, Sound, held-most, paid-bounded, posted-sound, stored-facts}
 use Rattle.ledger.proofs.Bounds.{standing-stored}
 use Rattle.audit.specs.Book.{Book, Money, prices, settled, received, interestEntered, cancelled, finished, acceptMoney}
@@ -168,13 +168,13 @@ open-book (Supplied start) b e m = m .1
 open-book (Stopped stop) b e m = m .1
 open-book Cancelled b e m = absurd (true≢false e)
 
-pub payment-matched : (a : Account) (b : Book) → Matched a b → (day yen : ℕ) → Begun (not (isNew (a .status))) a day 0
+pub payment-matched : (a : Account) (b : Book) → Matched a b → (day yen : ℕ) → PaymentPassed a day yen
     → payment a day yen .account .ledger .count ≤ 72 → payment a day yen .account .ledger .credit ≤ 999999999
     → Matched (payment a day yen .account) (acceptMoney b day (received (b .money) yen))
 payment-matched a b w day yen p items-most credit-most = go (isCancelled (a .status)) refl
   where
     facts : Facts a
-    facts = facts-of (a .status) a (p .status-allows) (w .facts)
+    facts = facts-of (a .status) a (p .not-new) (w .facts)
 
     after : Bool → Standing
     after c = cond c (heldPosted day (paidLedger a day yen)) (paidLedger a day yen)
@@ -191,7 +191,7 @@ payment-matched a b w day yen p items-most credit-most = go (isCancelled (a .sta
     go : (c : Bool) → isCancelled (a .status) ≡ c → Goal (isCancelled (a .status))
     go false e =
         subst Goal (sym e)
-        (open-payment a b w day (p .day-most) (p .not-before) facts yen e (p .status-allows) (open-book (a .status) b e (w .status-match)) (places false e) (credit false e))
+        (open-payment a b w day (p .day-most) (p .not-before) facts yen e (p .not-new) (open-book (a .status) b e (w .status-match)) (places false e) (credit false e))
     go true e =
         let is = cancelled-is (a .status) e in
         let book = subst (λ s. StatusMatch s b) is (w .status-match) in

@@ -20,7 +20,7 @@ use Rattle.account.specs.Outcomes.{accepted, declined, outcome}
 use Rattle.account.specs.Whole.{asMade, whole}
 use Rattle.account.proofs.Facts.{facts-whole}
 use Rattle.account.proofs.Passed
-use Rattle.account.proofs.Passed.{Accepted, begun, reading-passed, miss-passed, dial-passed, exchange-passed}
+use Rattle.account.proofs.Passed.{Accepted, begun, reading-passed, miss-passed, dial-passed, exchange-passed, payment-passed}
 use Rattle.audit.specs.Book.{Book, byMiss, byAbsence, newPeriod, prices, acceptMiss, accept, enter}
 use Rattle.audit.specs.Claim.{Run, start, step, run, finalVolume, unpaidOn, Reconciled}
 use Rattle.audit.proofs.Balance.{standing-is, yen-sum}
@@ -60,13 +60,12 @@ keeps a b w (Cancellation day reading fuel) p =
     let q = reading-passed a day reading fuel (p .first-passed) in
     record { matched = cancellation-matched a b w day reading fuel q (p .items-most) (p .credit-most); volumes = reading-advanced a b w day reading fuel q }
 keeps a b w (Payment day yen) p =
-    let q = begun (not (isNew (a .status))) a day (unless (paymentAllowed yen) 11 0) (p .first-passed) in
     record {
-      matched = payment-matched a b w day yen (record { status-allows = q .status-allows; day-most = q .day-most; not-before = q .not-before; then-passed = refl }) (p .items-most) (p .credit-most);
+      matched = payment-matched a b w day yen (payment-passed a day yen (p .first-passed)) (p .items-most) (p .credit-most);
       volumes = zero-add (b .metering .advanced);
     }
 keeps a b w (StoppedCancellation day) p =
-    let q = begun (isStopped (a .status)) a day 0 (p .first-passed) in
+    let q = begun (isStopped (a .status)) (a .latest) day 0 (p .first-passed) in
     record {
       matched = stopped-cancellation-matched a b w day (q .day-most) (q .not-before) (stop a b w (q .status-allows) .facts) (p .items-most) (p .credit-most);
       volumes = zero-add (b .metering .advanced);
