@@ -1,7 +1,7 @@
 -- What a whole account keeps to, as facts about its fields. Assumes nothing.
 use mathlib.Core.Path.{_≡_, refl, ap}
 use mathlib.Core.Logic.{_⊎_}
-use mathlib.Core.Bool.{Bool, true, false, cond, _&&_, _||_}
+use mathlib.Core.Bool.{Bool, true, false, cond, _&&_, _||_, not, false≢true}
 use Prim.Native.Nat.{ℕ, _+_, _%_, _≤_, _<_}
 use native.Mathlib.Omega.{arith}
 use lib.Dec.{leb, eqb}
@@ -20,8 +20,10 @@ use Rattle.account.specs.declared.Status.{Status}
 use Rattle.account.specs.declared.Status.the-variants.{New, Supplied, Stopped, Cancelled}
 use Rattle.account.specs.declared.Account.{Account}
 use Rattle.account.specs.Limits.{within, priceAllowed, fuelAllowed, dayAllowed, digitsAllowed, onDial, volumeAllowed, missesAllowed, itemsAllowed, creditAllowed}
-use Rattle.account.specs.Calls.{standingEstimates}
+use Rattle.account.specs.Closing.{startOf}
+use Rattle.account.specs.Calls.{standingEstimates, isCancelled}
 use Rattle.account.specs.Whole.{wholeEstimate, wholeItem, wholeLedger, wholeMeter, wholeParts, asMade, wholeStatus, whole}
+use Rattle.account.specs.Refusals.{isNew, isSupplied, isStopped}
 use Rattle.account.proofs.Tests.{and-left, and-right, and-intro, within-low, within-high, within-intro, either-zero, zero-either}
 
 pub fuel-within : (fuel : Fuel) → fuelAllowed fuel ≡ true → WithinFuel fuel
@@ -292,3 +294,34 @@ made-facts a e =
       held-none = eqb-true (a .ledger .held) 0 (and-right (latest && digits && dial && pool && previous && misses && items) held eight);
       credit-none = eqb-true (a .ledger .credit) 0 (and-right (latest && digits && dial && pool && previous && misses && items && held) credit e);
     }
+
+-- What a test of the status gives on a whole account.
+pub supplied-facts : (status : Status) (a : Account) → isSupplied status ≡ true → StatusFacts status a → (startOf status ≤ a .latest + 1) × Facts a
+supplied-facts New a e w = absurd (false≢true e)
+supplied-facts (Supplied start) a e w = w
+supplied-facts (Stopped stop) a e w = absurd (false≢true e)
+supplied-facts Cancelled a e w = absurd (false≢true e)
+
+pub stopped-facts : (status : Status) (a : Account) → isStopped status ≡ true → StatusFacts status a → Facts a
+stopped-facts New a e w = absurd (false≢true e)
+stopped-facts (Supplied start) a e w = absurd (false≢true e)
+stopped-facts (Stopped stop) a e w = w .1
+stopped-facts Cancelled a e w = absurd (false≢true e)
+
+pub not-new-facts : (status : Status) (a : Account) → not (isNew status) ≡ true → StatusFacts status a → Facts a
+not-new-facts New a e w = absurd (false≢true e)
+not-new-facts (Supplied start) a e w = w .1
+not-new-facts (Stopped stop) a e w = w .1
+not-new-facts Cancelled a e w = w .1
+
+pub new-facts : (status : Status) (a : Account) → isNew status ≡ true → StatusFacts status a → Made a
+new-facts New a e w = made-facts a w
+new-facts (Supplied start) a e w = absurd (false≢true e)
+new-facts (Stopped stop) a e w = absurd (false≢true e)
+new-facts Cancelled a e w = absurd (false≢true e)
+
+pub cancelled-facts : (status : Status) (a : Account) → isCancelled status ≡ true → StatusFacts status a → (a .ledger .held ≡ 0) × Facts a
+cancelled-facts New a e w = absurd (false≢true e)
+cancelled-facts (Supplied start) a e w = absurd (false≢true e)
+cancelled-facts (Stopped stop) a e w = absurd (false≢true e)
+cancelled-facts Cancelled a e w = w

@@ -1,11 +1,11 @@
 -- What an accepted call has passed. Assumes nothing.
 use mathlib.Core.Path.{_≡_, refl}
-use mathlib.Core.Bool.{Bool, true, false, _&&_, not}
+use mathlib.Core.Bool.{Bool, true, false, _&&_, not, cond}
 use Prim.Native.Nat.{ℕ, suc, _+_, _≤_, _<_}
 use native.Mathlib.Nat.{suc-ne-zero}
 use native.Mathlib.Omega.{arith}
-use lib.Dec.{leb, ltb}
-use borrow.Author.Tests.{leb-true, ltb-true, ltb-false}
+use lib.Dec.{leb, ltb, eqb}
+use borrow.Author.Tests.{leb-true, ltb-true, ltb-false, eq-eqb, ne-eqb}
 use Rattle.tariff.specs.declared.Fuel.{Fuel}
 use Rattle.meter.specs.Dial.{span, advance, withinHalf, Digits}
 use Rattle.account.specs.declared.Account.{Account}
@@ -44,6 +44,22 @@ begun allowed latest day others e =
     let two = passes (dayAllowed day) 1 (unless (leb latest day) 3 others) (one .1) in
     let three = passes (leb latest day) 2 others (two .1) in
     record { status-allows = one .0; day-most = leb-true day 36494 (two .0); not-before = leb-true latest day (three .0); then-passed = three .1 }
+
+-- A call declined by its number 1 to 3, and one that they let pass.
+pub begins-then : (allowed : Bool) (latest day others : ℕ) → begins allowed latest day others ≡ cond (eqb (begins allowed latest day 0) 0) others (begins allowed latest day 0)
+begins-then allowed latest day others = go allowed (dayAllowed day) (leb latest day)
+  where
+    go : (one two three : Bool) → unless one 1 (unless two 2 (unless three 3 others)) ≡ cond (eqb (unless one 1 (unless two 2 (unless three 3 0))) 0) others (unless one 1 (unless two 2 (unless three 3 0)))
+    go false two three = refl
+    go true false three = refl
+    go true true false = refl
+    go true true true = refl
+
+pub begins-declined : (allowed : Bool) (latest day others n : ℕ) → n ≡ begins allowed latest day 0 → (n ≡ 0 → ⊥) → n ≡ begins allowed latest day others
+begins-declined allowed latest day others n e some = rw (begins-then allowed latest day others, ← e, ne-eqb n 0 some) refl
+
+pub begins-passed : (allowed : Bool) (latest day others n : ℕ) → n ≡ begins allowed latest day 0 → n ≡ 0 → begins allowed latest day others ≡ others
+begins-passed allowed latest day others n e none = rw (begins-then allowed latest day others, ← e, eq-eqb n 0 none) refl
 
 -- 02, 06 and 08.
 pub record ReadingPassed (a : Account) (day reading : ℕ) (fuel : Fuel) : Type 0 where

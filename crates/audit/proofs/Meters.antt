@@ -17,7 +17,7 @@ use Rattle.account.specs.Closing.{stopOf, resumedStart}
 use Rattle.account.specs.Calls
 use Rattle.account.specs.Calls.{standingEstimates}
 use Rattle.account.specs.Refusals.{isNew, isSupplied, isStopped}
-use Rattle.account.proofs.Facts.{ItemFacts, EstimateFacts, LedgerFacts, Facts, StatusFacts, Made, made-facts}
+use Rattle.account.proofs.Facts.{ItemFacts, EstimateFacts, LedgerFacts, Facts, StatusFacts, Made, new-facts}
 use Rattle.account.proofs.Passed.{DialPassed, ExchangePassed}
 use Rattle.account.proofs.Sound.{item-later, load}
 use Rattle.audit.specs.Book
@@ -39,16 +39,6 @@ ledger-later latest day ledger h w =
 -- The money of the book after such a call.
 load-same : (a : Account) (b : Book) (day : ℕ) → Matched a b → load (onLedger (settled (b .money) day)) ≤ 740000000000
 load-same a b day w = subst (λ (s : Standing). load s ≤ 740000000000) (sym (settled-same day (b .money) (w .balanced .kept .marks))) (w .load-most)
-
--- A new account has nothing on its ledger and nothing estimated.
-new-facts : (a : Account) → isNew (a .status) ≡ true → StatusFacts (a .status) a → Made a
-new-facts a new facts = go (a .status) new facts
-  where
-    go : (status : Status) → isNew status ≡ true → StatusFacts status a → Made a
-    go New e f = made-facts a f
-    go (Supplied start) e f = absurd (false≢true e)
-    go (Stopped stop) e f = absurd (false≢true e)
-    go Cancelled e f = absurd (false≢true e)
 
 new-open : (a : Account) (b : Book) → isNew (a .status) ≡ true → StatusMatch (a .status) b → b .money .is-cancelled ≡ false
 new-open a b new match = go (a .status) new match
@@ -94,7 +84,7 @@ opening-matched a b w day reading digits p =
     begun-matched a b w day reading digits day day (isNew (a .status)) p (new-open a b (p .status-allows) (w .status-match)) refl (omega arith) (omega (arith, made .pool-none)) (omega (arith, made .previous-none)) (omega (arith, made .misses-none)) none-estimated none-open
   where
     made : Made a
-    made = new-facts a (p .status-allows) (w .facts)
+    made = new-facts (a .status) a (p .status-allows) (w .facts)
 
     none-estimated : Every EstimateFacts (standingEstimates a)
     none-estimated = rw (made .misses-none) tt

@@ -11,7 +11,7 @@ use Rattle.account.specs.declared.Status.the-variants.{New, Supplied, Stopped, 
 use Rattle.account.specs.declared.Account.{Account}
 use Rattle.account.specs.Calls.{withLedger, isCancelled, paidLedger, payment, stoppedCancellation}
 use Rattle.account.specs.Refusals.{isNew}
-use Rattle.account.proofs.Facts.{Facts, StatusFacts}
+use Rattle.account.proofs.Facts.{Facts, StatusFacts, not-new-facts}
 use Rattle.account.proofs.Passed.{PaymentPassed}
 use Rattle.account.proofs.Sound.{Bounded, Sound, held-most, paid-bounded, posted-sound, stored-facts}
 use Rattle.ledger.proofs.Bounds.{standing-stored}
@@ -19,13 +19,6 @@ use Rattle.audit.specs.Book.{Book, Money, prices, settled, received, int
 use Rattle.audit.proofs.Balance.{Kept, onLedger, standing-is, paid-is, paid-kept, entered-is, entered-kept, quiet-kept, nothing-waits, finished-open, finished-cancelled}
 use Rattle.audit.proofs.Matching.{Metered, Matched, StatusMatch, stop}
 use Rattle.audit.proofs.Readings.{bounded}
-
--- An account that is not new.
-facts-of : (status : Status) (a : Account) → not (isNew status) ≡ true → StatusFacts status a → Facts a
-facts-of New a e f = absurd (false≢true e)
-facts-of (Supplied start) a e f = f .1
-facts-of (Stopped stop) a e f = f .1
-facts-of Cancelled a e f = f .1
 
 -- What a call leaves that has to do with money alone.
 module _ (a : Account) (b : Book) (w : Matched a b) (day : ℕ) (day-most : day ≤ 36494) (not-before : a .latest ≤ day) (facts : Facts a) where
@@ -174,7 +167,7 @@ pub payment-matched : (a : Account) (b : Book) → Matched a b → (day yen : �
 payment-matched a b w day yen p items-most credit-most = go (isCancelled (a .status)) refl
   where
     facts : Facts a
-    facts = facts-of (a .status) a (p .not-new) (w .facts)
+    facts = not-new-facts (a .status) a (p .not-new) (w .facts)
 
     after : Bool → Standing
     after c = cond c (heldPosted day (paidLedger a day yen)) (paidLedger a day yen)
