@@ -2,6 +2,7 @@
 use mathlib.Core.Path.{_≡_, refl, ap}
 use mathlib.Core.Logic.{_⊎_}
 use mathlib.Core.Bool.{Bool, true, false, cond, _&&_, _||_, not, false≢true}
+use mathlib.Core.List.{List}
 use Prim.Native.Nat.{ℕ, _+_, _%_, _≤_, _<_}
 use native.Mathlib.Omega.{arith}
 use lib.Dec.{leb, eqb}
@@ -68,6 +69,12 @@ estimate-whole estimate w =
     (and-intro (within-intro 1 36495 (estimate .days) (w .days-least) (w .days-most)) (w .fuel-allowed))
     (le-leb (estimate .volume) 99999 (w .volume-most)))
     (le-leb (estimate .charged) 100000000 (w .charged-most))
+
+pub estimates-facts : (estimates : List Estimate) → every wholeEstimate estimates ≡ true → Every EstimateFacts estimates
+estimates-facts estimates e = every-map (λ x. wholeEstimate x ≡ true) EstimateFacts estimate-facts estimates (every-true wholeEstimate estimates e)
+
+pub estimates-whole : (estimates : List Estimate) → Every EstimateFacts estimates → every wholeEstimate estimates ≡ true
+estimates-whole estimates w = true-every wholeEstimate estimates (every-map EstimateFacts (λ x. wholeEstimate x ≡ true) estimate-whole estimates w)
 
 -- An item.
 pub record ItemFacts (latest : ℕ) (item : Item) : Type 0 where
@@ -185,9 +192,7 @@ meter-facts a e =
       pool-most = leb-true (a .pool) 99999 (and-right (day && digits && dial) pool four);
       previous-most = leb-true (a .previous) 99999 (and-right (day && digits && dial && pool) previous five);
       misses-most = leb-true (a .estimates .count) 6 (and-right (day && digits && dial && pool && previous) misses six);
-      estimates =
-          every-map (λ x. wholeEstimate x ≡ true) EstimateFacts estimate-facts (standingEstimates a)
-          (every-true wholeEstimate (standingEstimates a) (and-right (day && digits && dial && pool && previous && misses) estimates e));
+      estimates = estimates-facts (standingEstimates a) (and-right (day && digits && dial && pool && previous && misses) estimates e);
     }
 
 pub meter-whole : (a : Account) → MeterFacts a → wholeMeter a ≡ true
@@ -203,7 +208,7 @@ meter-whole a w =
     (le-leb (a .pool) 99999 (w .pool-most)))
     (le-leb (a .previous) 99999 (w .previous-most)))
     (le-leb (a .estimates .count) 6 (w .misses-most)))
-    (true-every wholeEstimate (standingEstimates a) (every-map EstimateFacts (λ x. wholeEstimate x ≡ true) estimate-whole (standingEstimates a) (w .estimates)))
+    (estimates-whole (standingEstimates a) (w .estimates))
 
 -- An account that is not new.
 pub record Facts (a : Account) : Type 0 where

@@ -4,3 +4,4 @@ pub mod Facts
 pub mod Passed
 pub mod Sound
 pub mod Nets
+pub mod Ready

@@ -1,6 +1,7 @@
 // A gas account: its status, what it holds, the calls made on it and their answers.
 ghost use mathlib.Core.Path.{_≡_};
 ghost use Rattle.account.specs.Calls.{newAccount};
+pub mod closing;
 pub mod refusals;
 pub mod validity;
 use ledger::Ledger;

@@ -2,9 +2,10 @@
 use mathlib.Core.Path.{_≡_, refl}
 use mathlib.Core.Bool.{Bool, true, false, and-eq-true-iff, and-false}
 use mathlib.Core.List.{List, [], _∷_, _++_, reverse, reverse-cons}
-use Prim.Native.Nat.{ℕ, zero, suc, _<_}
+use Prim.Native.Nat.{ℕ, zero, suc, _-_, _<_}
 use native.Mathlib.Nat.{not-suc-le-zero, le-of-suc-le-suc}
-use lib.ListN.{length, getD, take}
+use lib.ListN.{length, getD, take, replicate}
+use Rattle.lists.specs.Pad.{pad}
 use Rattle.lists.specs.Every.{every, Every}
 
 module _ {A : Type 0} (P : A → Type 0) where
@@ -43,6 +44,12 @@ module _ {A : Type 0} (test : A → Bool) where
       let both = and-eq-true-iff (test x) (every test (take i xs)) .0 front in
       and-eq-true-iff (test x) (every test (take (suc i) xs)) .1 (both .0, every-next xs i d (le-of-suc-le-suc h) (both .1) e)
 
+  pub every-holds : (xs : List A) (n i : ℕ) (d : A) → i < n → i < length xs → every test (take n xs) ≡ true → test (getD xs i d) ≡ true
+  every-holds [] n i d l h e = absurd (not-suc-le-zero h)
+  every-holds (x ∷ xs) zero i d l h e = absurd (not-suc-le-zero l)
+  every-holds (x ∷ xs) (suc n) zero d l h e = and-eq-true-iff (test x) (every test (take n xs)) .0 e .0
+  every-holds (x ∷ xs) (suc n) (suc i) d l h e = every-holds xs n i d (le-of-suc-le-suc l) (le-of-suc-le-suc h) (and-eq-true-iff (test x) (every test (take n xs)) .0 e .1)
+
   pub every-fails : (xs : List A) (n i : ℕ) (d : A) → i < n → i < length xs → test (getD xs i d) ≡ false → every test (take n xs) ≡ false
   every-fails [] n i d l h e = absurd (not-suc-le-zero h)
   every-fails (x ∷ xs) zero i d l h e = absurd (not-suc-le-zero l)
@@ -52,3 +59,10 @@ module _ {A : Type 0} (test : A → Bool) where
 pub every-reverse : {A : Type 0} (P : A → Type 0) (xs : List A) → Every P xs → Every P (reverse xs)
 every-reverse P [] e = tt
 every-reverse P (x ∷ xs) e = rw (reverse-cons x xs) (every-append P (reverse xs) (x ∷ []) (every-reverse P xs (e .1)) (e .0, tt))
+
+pub every-pad : {A : Type 0} (P : A → Type 0) (size : ℕ) (blank : A) (xs : List A) → P blank → Every P xs → Every P (pad size blank xs)
+every-pad P size blank xs b e = every-append P xs (replicate (size - length xs) blank) e (blanks (size - length xs))
+  where
+    blanks : (n : ℕ) → Every P (replicate n blank)
+    blanks zero = tt
+    blanks (suc n) = (b, blanks n)

@@ -4,7 +4,7 @@ use mathlib.Core.List.{List, [], _∷_, _++_, map, map-append}
 use Prim.Native.Nat.{ℕ, zero, suc, _-_, _≤_, _<_}
 use native.Mathlib.Nat.{le-of-lt, sub-zero, zero-sub, suc-sub-suc}
 use native.Mathlib.Omega.{arith}
-use lib.ListN.{length, length-append, length-map, replicate, length-replicate, getD, set, take, drop}
+use lib.ListN.{length, length-append, length-map, replicate, length-replicate, getD, set, take, drop, List·getD-append}
 use lib.Seq.{take-append-seam, take-append-le, take-all, take-nil, take-suc, length-take-le, set-at, append-snoc}
 use Rattle.lists.specs.Pad.{pad}
 
@@ -65,3 +65,11 @@ pad-push blank size xs x h =
 
 pub pad-full : {A : Type 0} (blank : A) (size : ℕ) (xs : List A) (x : A) → size ≤ length xs → pad size blank (take size xs) ≡ pad size blank (take size (xs ++ (x ∷ [])))
 pad-full blank size xs x h = ap (pad size blank) (sym (take-append-le size xs (x ∷ []) h))
+
+pub length-take-most : {A : Type 0} (n : ℕ) (xs : List A) → length (take n xs) ≤ n
+length-take-most zero xs = omega arith
+length-take-most (suc n) [] = omega arith
+length-take-most (suc n) (x ∷ xs) = omega (arith, length-take-most n xs)
+
+pub getD-pad : {A : Type 0} (blank : A) (size : ℕ) (xs : List A) (i : ℕ) → i < length xs → getD (pad size blank xs) i blank ≡ getD xs i blank
+getD-pad blank size xs i h = List·getD-append xs (replicate (size - length xs) blank) blank i h

@@ -70,7 +70,8 @@ pub fn final_volumes(estimates: Estimates, pool: u32) -> Volumes
     }
 }
 
-fn estimated_volume(estimates: Estimates) -> u64
+// What was billed on the estimates.
+pub fn estimated_volume(estimates: Estimates) -> u64
     requires { ⌜ AtMostSix estimates ⌝ }
     ensures { λ r. ⌜ r ≡ estimated (standing estimates) ⌝ }
 {

@@ -1,0 +1,106 @@
+-- What a call that passed its first checks on a whole account may rely on. Assumes nothing.
+use mathlib.Core.Path.{_≡_}
+use mathlib.Core.Bool.{true}
+use mathlib.Core.List.{List}
+use Prim.Native.Nat.{ℕ, _+_, _≤_}
+use native.Mathlib.Nat.{le-trans}
+use native.Mathlib.Omega.{arith}
+use lib.ListN.{length}
+use Rattle.lists.specs.Every.{every, Every}
+use Rattle.lists.proofs.Every.{every-map}
+use Rattle.lists.proofs.Pad.{length-take-most}
+use Rattle.tariff.specs.declared.Fuel.{Fuel}
+use Rattle.tariff.specs.Price.{Billable}
+use Rattle.tariff.proofs.Bounds.{price-most}
+use Rattle.meter.specs.declared.Estimate.{Estimate}
+use Rattle.meter.specs.Dial.{OnDial}
+use Rattle.meter.specs.Sharing.{AtMostSix, finalVolumes}
+use Rattle.ledger.specs.declared.Item.{Item}
+use Rattle.ledger.specs.declared.Ledger.{Ledger}
+use Rattle.ledger.specs.Posting.{standing, chargeOf, creditOf, ItemBounds, LedgerBounds, NetBounds}
+use Rattle.account.specs.declared.Account.{Account}
+use Rattle.account.specs.Closing.{startOf, daysOf, ofThisPeriod, netOf}
+use Rattle.account.specs.Calls.{standingEstimates, poolTo, madeFinal, closingPrice, closingNet}
+use Rattle.account.specs.Whole.{wholeEstimate, whole}
+use Rattle.account.specs.Refusals.{readingRefusal}
+use Rattle.account.proofs.Facts.{ItemFacts, MeterFacts, LedgerFacts, Facts, whole-facts, estimates-whole, supplied-facts}
+use Rattle.account.proofs.Passed.{ReadingPassed, reading-passed}
+use Rattle.account.proofs.Sound.{item-later}
+use Rattle.account.proofs.Nets.{billable, this-within, charge-most, credit-most}
+
+item-bounds : (latest : ℕ) (item : Item) → ItemFacts latest item → ItemBounds item
+item-bounds latest item w =
+    record { unpaid-least = w .unpaid-least; unpaid-most = le-trans (w .unpaid-most) (w .amount-most); price-most = w .price-most }
+
+pub items-bounds : (latest : ℕ) (items : List Item) → Every (ItemFacts latest) items → Every ItemBounds items
+items-bounds latest items w = every-map (ItemFacts latest) ItemBounds (item-bounds latest) items w
+
+-- The ledger of a whole account.
+pub ledger-bounds : (latest : ℕ) (ledger : Ledger) → LedgerFacts latest ledger → LedgerBounds ledger
+ledger-bounds latest ledger w =
+    record {
+      open-bounds = record { count-most = w .count-most; items-within = items-bounds latest (standing ledger .open-items) (w .items) };
+      held-most = w .held-most;
+      credit-most = omega (arith, w .credit-most);
+    }
+
+pub items-later : (latest day : ℕ) (ledger : Ledger) → latest ≤ day → LedgerFacts latest ledger → Every (ItemFacts day) (standing ledger .open-items)
+items-later latest day ledger h w = every-map (ItemFacts latest) (ItemFacts day) (item-later latest day h) (standing ledger .open-items) (w .items)
+
+-- 02, 06 and 08.
+pub record ReadingReady (a : Account) (day reading : ℕ) (fuel : Fuel) : Type 0 where
+  pub day-most : day ≤ 36494
+  pub not-before : a .latest ≤ day
+  pub start-most : startOf (a .status) ≤ day + 1
+  pub on-dial : OnDial (a .digits) (a .dial) reading
+  pub pool-most : poolTo a reading ≤ 99999
+  pub misses-most : AtMostSix (a .estimates)
+  pub estimates : every wholeEstimate (standingEstimates a) ≡ true
+  pub priced : Billable (daysOf (startOf (a .status)) day) fuel (ofThisPeriod (madeFinal a day reading fuel))
+  pub net-bounds : NetBounds (closingNet a day reading fuel)
+  pub ledger : LedgerFacts (a .latest) (a .ledger)
+
+pub reading-ready : (a : Account) (day reading : ℕ) (fuel : Fuel) → whole a ≡ true → readingRefusal a day reading fuel ≡ 0 → ReadingReady a day reading fuel
+reading-ready a day reading fuel w e =
+    record {
+      day-most = p .day-most;
+      not-before = p .not-before;
+      start-most = start;
+      on-dial = record { digits-within = meter .digits-within; old-within = meter .dial-within; new-within = p .on-dial };
+      pool-most = p .pool-most;
+      misses-most = meter .misses-most;
+      estimates = estimates-whole (standingEstimates a) (meter .estimates);
+      priced = priced;
+      net-bounds = (omega (arith, charge), omega (arith, credit));
+      ledger = known .1 .ledger;
+    }
+  where
+    p : ReadingPassed a day reading fuel
+    p = reading-passed a day reading fuel e
+
+    known : (startOf (a .status) ≤ a .latest + 1) × Facts a
+    known = supplied-facts (a .status) a (p .supplied) (whole-facts a w)
+
+    meter : MeterFacts a
+    meter = known .1 .meter
+
+    start : startOf (a .status) ≤ day + 1
+    start = omega (arith, known .0, p .not-before)
+
+    pool : ℕ
+    pool = poolTo a reading
+
+    priced : Billable (daysOf (startOf (a .status)) day) fuel (ofThisPeriod (madeFinal a day reading fuel))
+    priced = billable (daysOf (startOf (a .status)) day) fuel (ofThisPeriod (madeFinal a day reading fuel)) (p .some-day) (omega (arith, p .day-most)) (p .fuel-allowed) (this-within (standingEstimates a) pool (p .pool-most))
+
+    six : length (standingEstimates a) ≤ 6
+    six = omega (arith, length-take-most (a .estimates .count) (a .estimates .periods), meter .misses-most)
+
+    within : closingPrice a day reading fuel ≤ 100000000
+    within = price-most (daysOf (startOf (a .status)) day) fuel (ofThisPeriod (madeFinal a day reading fuel)) priced
+
+    charge : chargeOf (closingNet a day reading fuel) ≤ 700000000
+    charge = charge-most (standingEstimates a) pool (closingPrice a day reading fuel) six (meter .estimates) (p .pool-most) within
+
+    credit : creditOf (closingNet a day reading fuel) ≤ 600000000
+    credit = credit-most (standingEstimates a) pool (closingPrice a day reading fuel) six (meter .estimates) (p .pool-most) within
