@@ -5,3 +5,4 @@ pub mod Passed
 pub mod Sound
 pub mod Nets
 pub mod Ready
+pub mod Concluding

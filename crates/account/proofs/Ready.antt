@@ -1,11 +1,12 @@
 -- What a call that passed its first checks on a whole account may rely on. Assumes nothing.
-use mathlib.Core.Path.{_≡_}
+use mathlib.Core.Path.{_≡_, sym, subst}
 use mathlib.Core.Bool.{true}
 use mathlib.Core.List.{List}
 use Prim.Native.Nat.{ℕ, _+_, _≤_}
 use native.Mathlib.Nat.{le-trans}
 use native.Mathlib.Omega.{arith}
-use lib.ListN.{length}
+use lib.IntN.{ℤ}
+use lib.ListN.{length, take}
 use Rattle.lists.specs.Every.{every, Every}
 use Rattle.lists.proofs.Every.{every-map}
 use Rattle.lists.proofs.Pad.{length-take-most}
@@ -17,15 +18,18 @@ use Rattle.meter.specs.Dial.{OnDial}
 use Rattle.meter.specs.Sharing.{AtMostSix, finalVolumes}
 use Rattle.ledger.specs.declared.Item.{Item}
 use Rattle.ledger.specs.declared.Ledger.{Ledger}
-use Rattle.ledger.specs.Posting.{standing, chargeOf, creditOf, ItemBounds, LedgerBounds, NetBounds}
+use Rattle.ledger.specs.Posting.{Standing, standing, stored, closed, capacity, Ready, chargeOf, creditOf, ItemBounds, OpenBounds, LedgerBounds, NetBounds}
+use Rattle.ledger.proofs.Bounds.{stored-bounds}
+use Rattle.account.specs.declared.Status.{Status}
+use Rattle.account.specs.declared.Status.the-variants.{New, Supplied, Stopped, Cancelled}
 use Rattle.account.specs.declared.Account.{Account}
 use Rattle.account.specs.Closing.{startOf, daysOf, ofThisPeriod, netOf}
-use Rattle.account.specs.Calls.{standingEstimates, poolTo, madeFinal, closingPrice, closingNet}
+use Rattle.account.specs.Calls.{standingEstimates, poolTo, madeFinal, closingPrice, closingNet, closedLedger}
 use Rattle.account.specs.Whole.{wholeEstimate, whole}
 use Rattle.account.specs.Refusals.{readingRefusal}
-use Rattle.account.proofs.Facts.{ItemFacts, MeterFacts, LedgerFacts, Facts, whole-facts, estimates-whole, supplied-facts}
+use Rattle.account.proofs.Facts.{ItemFacts, MeterFacts, LedgerFacts, Facts, StatusFacts, made-facts, whole-facts, estimates-whole, supplied-facts}
 use Rattle.account.proofs.Passed.{ReadingPassed, reading-passed}
-use Rattle.account.proofs.Sound.{item-later}
+use Rattle.account.proofs.Sound.{Sound, Bounded, item-later, closed-bounded}
 use Rattle.account.proofs.Nets.{billable, this-within, charge-most, credit-most}
 
 item-bounds : (latest : ℕ) (item : Item) → ItemFacts latest item → ItemBounds item
@@ -43,6 +47,21 @@ ledger-bounds latest ledger w =
       held-most = w .held-most;
       credit-most = omega (arith, w .credit-most);
     }
+
+-- The open items of any whole account.
+pub whole-open : (a : Account) → whole a ≡ true → OpenBounds (a .ledger)
+whole-open a e = go (a .status) (whole-facts a e)
+  where
+    of-ledger : LedgerFacts (a .latest) (a .ledger) → OpenBounds (a .ledger)
+    of-ledger w = ledger-bounds (a .latest) (a .ledger) w .open-bounds
+
+    go : (status : Status) → StatusFacts status a → OpenBounds (a .ledger)
+    go New w =
+        let none = made-facts a w .items-none in
+        record { count-most = omega (arith, none); items-within = subst (λ n. Every ItemBounds (take n (a .ledger .items))) (sym none) tt }
+    go (Supplied start) w = of-ledger (w .1 .ledger)
+    go (Stopped stop) w = of-ledger (w .1 .ledger)
+    go Cancelled w = of-ledger (w .1 .ledger)
 
 pub items-later : (latest day : ℕ) (ledger : Ledger) → latest ≤ day → LedgerFacts latest ledger → Every (ItemFacts day) (standing ledger .open-items)
 items-later latest day ledger h w = every-map (ItemFacts latest) (ItemFacts day) (item-later latest day h) (standing ledger .open-items) (w .items)
@@ -104,3 +123,29 @@ reading-ready a day reading fuel w e =
 
     credit : creditOf (closingNet a day reading fuel) ≤ 600000000
     credit = credit-most (standingEstimates a) pool (closingPrice a day reading fuel) six (meter .estimates) (p .pool-most) within
+
+-- What stands after a posting is ready for the next.
+pub sound-ready : (day : ℕ) (s : Standing) → Sound day s → Ready s
+sound-ready day s w =
+    record {
+      settled = w .settled;
+      none-at-zero = every-map (ItemFacts day) (λ item. 1 ≤ item .unpaid) (λ item f. f .unpaid-least) (s .open-items) (w .items);
+    }
+
+pub sound-open : (day : ℕ) (s : Standing) → Sound day s → stored s .count ≤ capacity → OpenBounds (stored s)
+sound-open day s w h = stored-bounds s (items-bounds day (s .open-items) (w .items)) h
+
+-- No more than 74 items stand before number 12 looks.
+pub bounded-count : (day : ℕ) (s : Standing) → Bounded day s → length (s .open-items) ≤ 80
+bounded-count day s w = omega (arith, w .load-most)
+
+-- The ledger after a closing.
+module _ (latest day : ℕ) (ledger : Ledger) (w : LedgerFacts latest ledger) (most : day ≤ 36494) (not-before : latest ≤ day) where
+  places : length (standing ledger .open-items) ≤ 72
+  places = omega (arith, length-take-most (ledger .count) (ledger .items), w .count-most)
+
+  pub ledger-closed : (net : ℤ) → NetBounds net → Bounded day (closed day net (standing ledger))
+  ledger-closed net n = closed-bounded day (standing ledger) most (items-later latest day ledger not-before w) (w .held-most) net (n .0) places
+
+pub reading-closed : (a : Account) (day reading : ℕ) (fuel : Fuel) → ReadingReady a day reading fuel → Bounded day (closedLedger a day reading fuel)
+reading-closed a day reading fuel w = ledger-closed (a .latest) day (a .ledger) (w .ledger) (w .day-most) (w .not-before) (closingNet a day reading fuel) (w .net-bounds)

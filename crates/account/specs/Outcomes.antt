@@ -11,7 +11,7 @@ use Rattle.account.specs.declared.Account.{Account}
 use Rattle.account.specs.declared.Outcome.{Outcome}
 use Rattle.account.specs.declared.Call.{Call}
 use Rattle.account.specs.Calls.{Work, work}
-use Rattle.account.specs.Refusals.{refusal}
+use Rattle.account.specs.Refusals.{lastRefusal, refusal}
 
 -- A declined call: its number, every other field 0, the account as it was.
 abbrev pub declined : Account → ℕ → Outcome
@@ -40,3 +40,8 @@ accepted w =
 
 unfoldable pub outcome : Account → Call → Outcome
 outcome a call = cond (eqb (refusal a call) 0) (accepted (work a call)) (declined a (refusal a call))
+
+-- What a call comes to that 41 and 1 to 11 let pass: declined by 12 or 13, or accepted.
+abbrev pub concluded : Account → Work → Outcome
+concluded a w =
+    cond (eqb (lastRefusal (w .account .ledger)) 0) (accepted w) (declined a (lastRefusal (w .account .ledger)))

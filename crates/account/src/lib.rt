@@ -4,6 +4,7 @@ ghost use Rattle.account.specs.Calls.{newAccount};
 pub mod closing;
 pub mod refusals;
 pub mod validity;
+pub mod whole;
 use ledger::Ledger;
 use meter::Estimate;
 use meter::Estimates;

@@ -4,6 +4,7 @@ ghost use mathlib.Core.Bool.{true, not};
 ghost use Prim.Native.Nat.{_≤_};
 ghost use Rattle.meter.specs.Dial.{OnDial};
 ghost use Rattle.account.specs.Closing.{startOf, stopOf};
+ghost use Rattle.account.specs.Calls.{isCancelled};
 ghost use Rattle.account.specs.Whole.{whole};
 ghost use Rattle.account.specs.Refusals.{isNew, isSupplied, isStopped, begins, advances, readingRefusal, missRefusal, dialRefusal, exchangeRefusal, paymentRefusal, lastRefusal};
 use crate::validity::digits_allowed;
@@ -46,6 +47,17 @@ pub fn is_stopped(status: Status) -> bool
         Status::Supplied { start: _ } => false,
         Status::Stopped { stop: _ } => true,
         Status::Cancelled => false,
+    }
+}
+
+pub fn is_cancelled(status: Status) -> bool
+    ensures { λ r. ⌜ r ≡ isCancelled status ⌝ }
+{
+    match status {
+        Status::New => false,
+        Status::Supplied { start: _ } => false,
+        Status::Stopped { stop: _ } => false,
+        Status::Cancelled => true,
     }
 }
 

@@ -1,0 +1,276 @@
+// The ten calls on an account that is known to be whole: checks 1 to 11, the work, then 12 and 13.
+ghost use mathlib.Core.Path.{_≡_};
+ghost use mathlib.Core.Bool.{true};
+ghost use mathlib.Core.List.{List, [], _∷_, _++_};
+ghost use Prim.Native.Nat.{ℕ, _≤_, _<_};
+ghost use lib.IntN.{pos};
+ghost use Rattle.meter.specs.Sharing.{standing, volumesOf};
+ghost use Rattle.ledger.specs.Posting.{capacity, OpenBounds};
+ghost use Rattle.account.specs.declared.Call.the-variants.{Opening, Reading, Missed, Absent, Exchange, Disconnection, Reconnection, Cancellation, Payment, StoppedCancellation};
+ghost use Rattle.account.specs.Closing.{resumedStart, storedEstimates};
+ghost use Rattle.account.specs.Calls.{begun, exchanged, read, cancelled, missed, payment, stoppedCancellation};
+ghost use Rattle.account.specs.Whole.{whole};
+ghost use Rattle.account.specs.Refusals.{readingRefusal, missRefusal, paymentRefusal};
+ghost use Rattle.account.specs.Outcomes.{declined, concluded, outcome};
+use crate::closing::days_of;
+use crate::closing::close_period;
+use crate::closing::Closing;
+use crate::refusals::dial_refusal;
+use crate::refusals::exchange_refusal;
+use crate::refusals::is_cancelled;
+use crate::refusals::is_new;
+use crate::refusals::is_stopped;
+use crate::refusals::limit_refusal;
+use crate::refusals::miss_refusal;
+use crate::refusals::payment_refusal;
+use crate::refusals::reading_refusal;
+use crate::refusals::start_of;
+use crate::refusals::start_refusal;
+use crate::refusals::stop_of;
+use crate::Account;
+use crate::Answer;
+use crate::Call;
+use crate::Outcome;
+use crate::Status;
+use ledger::Ledger;
+use meter::dial_advance;
+use meter::Estimate;
+use meter::Estimates;
+use meter::Volumes;
+use tariff::price;
+use tariff::Fuel;
+
+fn no_volumes() -> Volumes
+    ensures { λ r. ⌜ r ≡ volumesOf [] ⌝ }
+{
+    Volumes {
+        count: 0,
+        volumes: [0u32; 7],
+    }
+}
+
+fn no_estimates() -> Estimates
+    ensures { λ r. ⌜ r ≡ storedEstimates [] ⌝ }
+{
+    let blank = Estimate {
+        absent: false,
+        days: 0,
+        fuel: Fuel { lng: 0, propane: 0 },
+        volume: 0,
+        charged: 0,
+    };
+    Estimates {
+        count: 0,
+        periods: [blank; 6],
+    }
+}
+
+// A declined call: its number, every other field 0, the account as it was.
+pub fn decline(account: Account, number: u8) -> Outcome
+    ensures { λ r. ⌜ r ≡ declined account number ⌝ }
+{
+    Outcome {
+        account: account,
+        answer: Answer {
+            number: number,
+            estimated: 0,
+            volumes: no_volumes(),
+            net: 0,
+            interest: 0,
+            unpaid: 0,
+            credit: 0,
+        },
+    }
+}
+
+// 12 and 13, and what stands on the ledger when the call ends.
+fn finish(before: Account, after: Account, mut answer: Answer) -> Outcome
+    requires { ⌜ answer .number ≡ 0 ⌝ }
+    requires { ⌜ (after .ledger .count ≤ capacity → OpenBounds (after .ledger)) ⌝ }
+    ensures { λ r. ⌜ ((volumes : List ℕ) → answer .volumes ≡ volumesOf volumes → r ≡ concluded before (record { account = after; estimated = answer .estimated; volumes = volumes; net = answer .net; interest = answer .interest })) ⌝ }
+{
+    let ledger = after.ledger;
+    let number = limit_refusal(ledger);
+    if number != 0 {
+        return decline(before, number);
+    }
+    answer.unpaid = ledger.unpaid();
+    answer.credit = ledger.credit;
+    Outcome {
+        account: after,
+        answer: answer,
+    }
+}
+
+// The answer of a call that closes no period.
+fn quiet_answer(interest: u64) -> Answer
+    ensures { λ r. ⌜ r ≡ record { number = 0; estimated = 0; volumes = volumesOf []; net = pos 0; interest = interest; unpaid = 0; credit = 0 } ⌝ }
+{
+    Answer {
+        number: 0,
+        estimated: 0,
+        volumes: no_volumes(),
+        net: 0,
+        interest: interest,
+        unpaid: 0,
+        credit: 0,
+    }
+}
+
+// 01 and 07: the dial is set and a period begins.
+fn begin_period(account: Account, day: u16, reading: u32, digits: u8, start: u16) -> Outcome
+    requires { ⌜ OpenBounds (account .ledger) ⌝ }
+    ensures { λ r. ⌜ r ≡ concluded account (begun account day reading digits start) ⌝ }
+{
+    let after = Account {
+        status: Status::Supplied { start: start },
+        latest: day,
+        digits: digits,
+        dial: reading,
+        ..account
+    };
+    finish(account, after, quiet_answer(0))
+}
+
+// 01
+pub fn begin_supply(account: Account, day: u16, reading: u32, digits: u8) -> Outcome
+    requires { ⌜ whole account ≡ true ⌝ }
+    ensures { λ r. ⌜ r ≡ outcome account (Opening day reading digits) ⌝ }
+{
+    let status = account.status;
+    let number = dial_refusal(is_new(status), account, day, reading, digits);
+    if number != 0 {
+        return decline(account, number);
+    }
+    begin_period(account, day, reading, digits, day)
+}
+
+// The period begins on the day of a resumption, and on the day after where that is the stop day: 14(3).
+fn resumed_start(stop: u16, day: u16) -> u16
+    requires { ⌜ day ≤ 36494 ⌝ }
+    ensures { λ r. ⌜ r ≡ resumedStart stop day ⌝ }
+{
+    if stop == day { day + 1 } else { day }
+}
+
+// 07
+pub fn reconnect(account: Account, day: u16, reading: u32, digits: u8) -> Outcome
+    requires { ⌜ whole account ≡ true ⌝ }
+    ensures { λ r. ⌜ r ≡ outcome account (Reconnection day reading digits) ⌝ }
+{
+    let status = account.status;
+    let number = dial_refusal(is_stopped(status), account, day, reading, digits);
+    if number != 0 {
+        return decline(account, number);
+    }
+    let start = resumed_start(stop_of(status), day);
+    begin_period(account, day, reading, digits, start)
+}
+
+// 05: the old meter's advance goes to the pool, and the new meter goes on. No period closes.
+pub fn exchange_meter(mut account: Account, day: u16, old: u32, new: u32, digits: u8) -> Outcome
+    requires { ⌜ whole account ≡ true ⌝ }
+    ensures { λ r. ⌜ r ≡ outcome account (Exchange day old new digits) ⌝ }
+{
+    let before = account;
+    let number = exchange_refusal(account, day, old, new, digits);
+    if number != 0 {
+        return decline(account, number);
+    }
+    account.pool += dial_advance(account.digits, account.dial, old);
+    account.latest = day;
+    account.digits = digits;
+    account.dial = new;
+    finish(before, account, quiet_answer(0))
+}
+
+// 02, 06 and 08: all volumes are final, so no estimate stands and the pool is 0.
+fn after_reading(account: Account, day: u16, reading: u32, volume: u32, status: Status, ledger: Ledger) -> Account
+    ensures { λ r. ⌜ r ≡ record { status = status; latest = day; digits = account .digits; dial = reading; pool = 0; previous = volume; estimates = storedEstimates []; ledger = ledger } ⌝ }
+{
+    Account {
+        status: status,
+        latest: day,
+        digits: account.digits,
+        dial: reading,
+        pool: 0,
+        previous: volume,
+        estimates: no_estimates(),
+        ledger: ledger,
+    }
+}
+
+fn closing_answer(closing: Closing, interest: u64) -> Answer
+    ensures { λ r. ⌜ r ≡ record { number = 0; estimated = 0; volumes = closing .volumes; net = closing .net; interest = interest; unpaid = 0; credit = 0 } ⌝ }
+{
+    let volumes = closing.volumes;
+    Answer {
+        number: 0,
+        estimated: 0,
+        volumes: volumes,
+        net: closing.net,
+        interest: interest,
+        unpaid: 0,
+        credit: 0,
+    }
+}
+
+// 02 and 06
+fn close_reading(account: Account, day: u16, reading: u32, fuel: Fuel, status: Status) -> Outcome
+    requires { ⌜ whole account ≡ true ⌝ }
+    requires { ⌜ readingRefusal account day reading fuel ≡ 0 ⌝ }
+    ensures { λ r. ⌜ r ≡ concluded account (read account day reading fuel status) ⌝ }
+{
+    let closing = close_period(account, day, reading, fuel);
+    let after = after_reading(account, day, reading, closing.volume, status, closing.ledger);
+    finish(account, after, closing_answer(closing, account.ledger.held))
+}
+
+// 08: the interest that the closing brings is posted too, as one last item.
+fn close_cancelled(account: Account, day: u16, reading: u32, fuel: Fuel) -> Outcome
+    requires { ⌜ whole account ≡ true ⌝ }
+    requires { ⌜ readingRefusal account day reading fuel ≡ 0 ⌝ }
+    ensures { λ r. ⌜ r ≡ concluded account (cancelled account day reading fuel) ⌝ }
+{
+    let closing = close_period(account, day, reading, fuel);
+    let ledger = closing.ledger.post_held(day);
+    let after = after_reading(account, day, reading, closing.volume, Status::Cancelled, ledger);
+    let interest = account.ledger.held + closing.ledger.held;
+    finish(account, after, closing_answer(closing, interest))
+}
+
+// 02
+pub fn read_meter(account: Account, day: u16, reading: u32, fuel: Fuel) -> Outcome
+    requires { ⌜ whole account ≡ true ⌝ }
+    ensures { λ r. ⌜ r ≡ outcome account (Reading day reading fuel) ⌝ }
+{
+    let number = reading_refusal(account, day, reading, fuel);
+    if number != 0 {
+        return decline(account, number);
+    }
+    close_reading(account, day, reading, fuel, Status::Supplied { start: day + 1 })
+}
+
+// 06
+pub fn disconnect(account: Account, day: u16, reading: u32, fuel: Fuel) -> Outcome
+    requires { ⌜ whole account ≡ true ⌝ }
+    ensures { λ r. ⌜ r ≡ outcome account (Disconnection day reading fuel) ⌝ }
+{
+    let number = reading_refusal(account, day, reading, fuel);
+    if number != 0 {
+        return decline(account, number);
+    }
+    close_reading(account, day, reading, fuel, Status::Stopped { stop: day })
+}
+
+// 08
+pub fn cancel(account: Account, day: u16, reading: u32, fuel: Fuel) -> Outcome
+    requires { ⌜ whole account ≡ true ⌝ }
+    ensures { λ r. ⌜ r ≡ outcome account (Cancellation day reading fuel) ⌝ }
+{
+    let number = reading_refusal(account, day, reading, fuel);
+    if number != 0 {
+        return decline(account, number);
+    }
+    close_cancelled(account, day, reading, fuel)
+}
