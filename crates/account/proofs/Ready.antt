@@ -2,10 +2,10 @@
 use mathlib.Core.Path.{_≡_, sym, subst}
 use mathlib.Core.Bool.{true}
 use mathlib.Core.List.{List}
-use Prim.Native.Nat.{ℕ, _+_, _≤_}
+use Prim.Native.Nat.{ℕ, _+_, _≤_, _<_}
 use native.Mathlib.Nat.{le-trans}
 use native.Mathlib.Omega.{arith}
-use lib.IntN.{ℤ}
+use lib.IntN.{ℤ, pos}
 use lib.ListN.{length, take}
 use Rattle.lists.specs.Every.{every, Every}
 use Rattle.lists.proofs.Every.{every-map}
@@ -26,9 +26,9 @@ use Rattle.account.specs.declared.Account.{Account}
 use Rattle.account.specs.Closing.{startOf, daysOf, ofThisPeriod, netOf}
 use Rattle.account.specs.Calls.{standingEstimates, poolTo, madeFinal, closingPrice, closingNet, closedLedger}
 use Rattle.account.specs.Whole.{wholeEstimate, whole}
-use Rattle.account.specs.Refusals.{readingRefusal}
+use Rattle.account.specs.Refusals.{readingRefusal, missRefusal}
 use Rattle.account.proofs.Facts.{ItemFacts, MeterFacts, LedgerFacts, Facts, StatusFacts, made-facts, whole-facts, estimates-whole, supplied-facts}
-use Rattle.account.proofs.Passed.{ReadingPassed, reading-passed}
+use Rattle.account.proofs.Passed.{ReadingPassed, reading-passed, miss-passed}
 use Rattle.account.proofs.Sound.{Sound, Bounded, item-later, closed-bounded}
 use Rattle.account.proofs.Nets.{billable, this-within, charge-most, credit-most}
 
@@ -123,6 +123,42 @@ reading-ready a day reading fuel w e =
 
     credit : creditOf (closingNet a day reading fuel) ≤ 600000000
     credit = credit-most (standingEstimates a) pool (closingPrice a day reading fuel) six (meter .estimates) (p .pool-most) within
+
+-- 03 and 04.
+pub record MissReady (a : Account) (day : ℕ) (fuel : Fuel) : Type 0 where
+  pub day-most : day ≤ 36494
+  pub not-before : a .latest ≤ day
+  pub start-most : startOf (a .status) ≤ day + 1
+  pub room : a .estimates .count < 6
+  pub priced : (volume : ℕ) → volume ≤ 99999 → Billable (daysOf (startOf (a .status)) day) fuel volume
+  pub ledger : LedgerFacts (a .latest) (a .ledger)
+
+pub miss-ready : (a : Account) (day : ℕ) (fuel : Fuel) → whole a ≡ true → missRefusal a day fuel ≡ 0 → MissReady a day fuel
+miss-ready a day fuel w e =
+    let p = miss-passed a day fuel e in
+    let known = supplied-facts (a .status) a (p .supplied) (whole-facts a w) in
+    record {
+      day-most = p .day-most;
+      not-before = p .not-before;
+      start-most = omega (arith, known .0, p .not-before);
+      room = omega (arith, p .misses-most);
+      priced = λ volume within. billable (daysOf (startOf (a .status)) day) fuel volume (p .some-day) (omega (arith, p .day-most)) (p .fuel-allowed) within;
+      ledger = known .1 .ledger;
+    }
+
+-- A net that is charged.
+pub charge-bounds : (n : ℕ) → n ≤ 100000000 → NetBounds (pos n)
+charge-bounds n h = (omega arith, omega arith)
+
+-- The volume of the period just before is one that can be billed.
+pub previous-within : (a : Account) → whole a ≡ true → a .previous ≤ 99999
+previous-within a e = go (a .status) (whole-facts a e)
+  where
+    go : (status : Status) → StatusFacts status a → a .previous ≤ 99999
+    go New w = omega (arith, made-facts a w .previous-none)
+    go (Supplied start) w = w .1 .meter .previous-most
+    go (Stopped stop) w = w .1 .meter .previous-most
+    go Cancelled w = w .1 .meter .previous-most
 
 -- What stands after a posting is ready for the next.
 pub sound-ready : (day : ℕ) (s : Standing) → Sound day s → Ready s

@@ -1,12 +1,14 @@
 // A gas account: its status, what it holds, the calls made on it and their answers.
 ghost use mathlib.Core.Path.{_≡_};
 ghost use Rattle.account.specs.Calls.{newAccount};
+
 pub mod closing;
 pub mod refusals;
 pub mod validity;
 pub mod whole;
+
+use crate::whole::no_estimates;
 use ledger::Ledger;
-use meter::Estimate;
 use meter::Estimates;
 use meter::Volumes;
 use tariff::Fuel;
@@ -112,17 +114,6 @@ impl Account {
     pub fn new() -> Account
         ensures { λ r. ⌜ r ≡ newAccount ⌝ }
     {
-        let blank = Estimate {
-            absent: false,
-            days: 0,
-            fuel: Fuel { lng: 0, propane: 0 },
-            volume: 0,
-            charged: 0,
-        };
-        let none = Estimates {
-            count: 0,
-            periods: [blank; 6],
-        };
         let ledger = Ledger::new();
         Account {
             status: Status::New,
@@ -131,7 +122,7 @@ impl Account {
             dial: 0,
             pool: 0,
             previous: 0,
-            estimates: none,
+            estimates: no_estimates(),
             ledger: ledger,
         }
     }

@@ -15,9 +15,9 @@ use crate::Status;
 use ledger::Item;
 use ledger::Kind;
 use ledger::Ledger;
-use meter::dial_span;
 use meter::Estimate;
 use meter::Estimates;
+use meter::dial_span;
 use tariff::Fuel;
 
 pub fn is_whole(account: Account) -> bool

@@ -12,9 +12,14 @@ ghost use Rattle.account.specs.Calls.{begun, exchanged, read, cancelled,
 ghost use Rattle.account.specs.Whole.{whole};
 ghost use Rattle.account.specs.Refusals.{readingRefusal, missRefusal, paymentRefusal};
 ghost use Rattle.account.specs.Outcomes.{declined, concluded, outcome};
-use crate::closing::days_of;
-use crate::closing::close_period;
+use crate::Account;
+use crate::Answer;
+use crate::Call;
+use crate::Outcome;
+use crate::Status;
 use crate::closing::Closing;
+use crate::closing::close_period;
+use crate::closing::days_of;
 use crate::refusals::dial_refusal;
 use crate::refusals::exchange_refusal;
 use crate::refusals::is_cancelled;
@@ -27,18 +32,21 @@ use crate::refusals::reading_refusal;
 use crate::refusals::start_of;
 use crate::refusals::start_refusal;
 use crate::refusals::stop_of;
-use crate::Account;
-use crate::Answer;
-use crate::Call;
-use crate::Outcome;
-use crate::Status;
 use ledger::Ledger;
-use meter::dial_advance;
 use meter::Estimate;
 use meter::Estimates;
 use meter::Volumes;
-use tariff::price;
+use meter::dial_advance;
 use tariff::Fuel;
+use tariff::price;
+
+const BLANK: Estimate = Estimate {
+    absent: false,
+    days: 0,
+    fuel: Fuel { lng: 0, propane: 0 },
+    volume: 0,
+    charged: 0,
+};
 
 fn no_volumes() -> Volumes
     ensures { λ r. ⌜ r ≡ volumesOf [] ⌝ }
@@ -49,19 +57,12 @@ fn no_volumes() -> Volumes
     }
 }
 
-fn no_estimates() -> Estimates
+pub fn no_estimates() -> Estimates
     ensures { λ r. ⌜ r ≡ storedEstimates [] ⌝ }
 {
-    let blank = Estimate {
-        absent: false,
-        days: 0,
-        fuel: Fuel { lng: 0, propane: 0 },
-        volume: 0,
-        charged: 0,
-    };
     Estimates {
         count: 0,
-        periods: [blank; 6],
+        periods: [BLANK; 6],
     }
 }
 
@@ -185,7 +186,14 @@ pub fn exchange_meter(mut account: Account, day: u16, old: u32, new: u32, digits
 }
 
 // 02, 06 and 08: all volumes are final, so no estimate stands and the pool is 0.
-fn after_reading(account: Account, day: u16, reading: u32, volume: u32, status: Status, ledger: Ledger) -> Account
+fn after_reading(
+    account: Account,
+    day: u16,
+    reading: u32,
+    volume: u32,
+    status: Status,
+    ledger: Ledger,
+) -> Account
     ensures { λ r. ⌜ r ≡ record { status = status; latest = day; digits = account .digits; dial = reading; pool = 0; previous = volume; estimates = storedEstimates []; ledger = ledger } ⌝ }
 {
     Account {
@@ -222,7 +230,14 @@ fn close_reading(account: Account, day: u16, reading: u32, fuel: Fuel, status: S
     ensures { λ r. ⌜ r ≡ concluded account (read account day reading fuel status) ⌝ }
 {
     let closing = close_period(account, day, reading, fuel);
-    let after = after_reading(account, day, reading, closing.volume, status, closing.ledger);
+    let after = after_reading(
+        account,
+        day,
+        reading,
+        closing.volume,
+        status,
+        closing.ledger,
+    );
     finish(account, after, closing_answer(closing, account.ledger.held))
 }
 
@@ -234,7 +249,14 @@ fn close_cancelled(account: Account, day: u16, reading: u32, fuel: Fuel) -> Outc
 {
     let closing = close_period(account, day, reading, fuel);
     let ledger = closing.ledger.post_held(day);
-    let after = after_reading(account, day, reading, closing.volume, Status::Cancelled, ledger);
+    let after = after_reading(
+        account,
+        day,
+        reading,
+        closing.volume,
+        Status::Cancelled,
+        ledger,
+    );
     let interest = account.ledger.held + closing.ledger.held;
     finish(account, after, closing_answer(closing, interest))
 }
@@ -248,7 +270,13 @@ pub fn read_meter(account: Account, day: u16, reading: u32, fuel: Fuel) -> Outco
     if number != 0 {
         return decline(account, number);
     }
-    close_reading(account, day, reading, fuel, Status::Supplied { start: day + 1 })
+    close_reading(
+        account,
+        day,
+        reading,
+        fuel,
+        Status::Supplied { start: day + 1 },
+    )
 }
 
 // 06
@@ -273,4 +301,181 @@ pub fn cancel(account: Account, day: u16, reading: u32, fuel: Fuel) -> Outcome
         return decline(account, number);
     }
     close_cancelled(account, day, reading, fuel)
+}
+
+// The estimates with one more behind them.
+fn with_estimate(estimates: Estimates, estimate: Estimate) -> Estimates
+    requires { ⌜ estimates .count < 6 ⌝ }
+    ensures { λ r. ⌜ r ≡ storedEstimates (standing estimates ++ (estimate ∷ [])) ⌝ }
+{
+    let count = estimates.count;
+    let mut periods = [BLANK; 6];
+    let mut i: usize = 0;
+    while i < count {
+        periods[i] = estimates.periods[i];
+        i += 1;
+    }
+    periods[count] = estimate;
+    Estimates {
+        count: count + 1,
+        periods: periods,
+    }
+}
+
+// 03 and 04: the period is billed on an estimate, which stands until a reading.
+fn close_estimated(account: Account, day: u16, fuel: Fuel, absent: bool, volume: u32) -> Outcome
+    requires { ⌜ whole account ≡ true ⌝ }
+    requires { ⌜ missRefusal account day fuel ≡ 0 ⌝ }
+    requires { ⌜ volume ≤ 99999 ⌝ }
+    ensures { λ r. ⌜ r ≡ concluded account (missed account day fuel absent volume) ⌝ }
+{
+    let status = account.status;
+    let before = account.ledger;
+    let days = days_of(start_of(status), day);
+    let charged = price(days as u32, fuel, volume);
+    let estimate = Estimate {
+        absent: absent,
+        days: days,
+        fuel: fuel,
+        volume: volume,
+        charged: charged,
+    };
+    let estimates = with_estimate(account.estimates, estimate);
+    let ledger = before.close(day, charged as i32);
+    let after = Account {
+        status: Status::Supplied { start: day + 1 },
+        latest: day,
+        previous: volume,
+        estimates: estimates,
+        ledger: ledger,
+        ..account
+    };
+    finish(
+        account,
+        after,
+        estimate_answer(volume, charged, before.held),
+    )
+}
+
+fn estimate_answer(volume: u32, charged: u32, interest: u64) -> Answer
+    requires { ⌜ charged ≤ 100000000 ⌝ }
+    ensures { λ r. ⌜ r ≡ record { number = 0; estimated = volume; volumes = volumesOf []; net = pos charged; interest = interest; unpaid = 0; credit = 0 } ⌝ }
+{
+    Answer {
+        number: 0,
+        estimated: volume,
+        volumes: no_volumes(),
+        net: charged as i32,
+        interest: interest,
+        unpaid: 0,
+        credit: 0,
+    }
+}
+
+// 03: the volume of the period just before.
+pub fn miss_reading(account: Account, day: u16, fuel: Fuel) -> Outcome
+    requires { ⌜ whole account ≡ true ⌝ }
+    ensures { λ r. ⌜ r ≡ outcome account (Missed day fuel) ⌝ }
+{
+    let number = miss_refusal(account, day, fuel);
+    if number != 0 {
+        return decline(account, number);
+    }
+    close_estimated(account, day, fuel, false, account.previous)
+}
+
+// 04: 0.
+pub fn note_absence(account: Account, day: u16, fuel: Fuel) -> Outcome
+    requires { ⌜ whole account ≡ true ⌝ }
+    ensures { λ r. ⌜ r ≡ outcome account (Absent day fuel) ⌝ }
+{
+    let number = miss_refusal(account, day, fuel);
+    if number != 0 {
+        return decline(account, number);
+    }
+    close_estimated(account, day, fuel, true, 0)
+}
+
+// 09: interest that the payment brings is held, and on a cancelled account posted at once.
+fn receive(mut account: Account, day: u16, yen: u32) -> Outcome
+    requires { ⌜ whole account ≡ true ⌝ }
+    requires { ⌜ paymentRefusal account day yen ≡ 0 ⌝ }
+    ensures { λ r. ⌜ r ≡ concluded account (payment account day yen) ⌝ }
+{
+    let before = account;
+    let status = account.status;
+    let ledger = before.ledger;
+    let paid = ledger.pay(day, yen as u64);
+    account.latest = day;
+    if is_cancelled(status) {
+        account.ledger = paid.post_held(day);
+        return finish(before, account, quiet_answer(paid.held));
+    }
+    account.ledger = paid;
+    finish(before, account, quiet_answer(0))
+}
+
+// 09
+pub fn pay(account: Account, day: u16, yen: u32) -> Outcome
+    requires { ⌜ whole account ≡ true ⌝ }
+    ensures { λ r. ⌜ r ≡ outcome account (Payment day yen) ⌝ }
+{
+    let number = payment_refusal(account, day, yen);
+    if number != 0 {
+        return decline(account, number);
+    }
+    receive(account, day, yen)
+}
+
+// 0a: interest held is posted, as by a closing with no net.
+pub fn cancel_stopped(account: Account, day: u16) -> Outcome
+    requires { ⌜ whole account ≡ true ⌝ }
+    ensures { λ r. ⌜ r ≡ outcome account (StoppedCancellation day) ⌝ }
+{
+    let status = account.status;
+    let before = account.ledger;
+    let number = start_refusal(is_stopped(status), account.latest, day);
+    if number != 0 {
+        return decline(account, number);
+    }
+    let ledger = before.close(day, 0);
+    let after = Account {
+        status: Status::Cancelled,
+        latest: day,
+        ledger: ledger,
+        ..account
+    };
+    finish(account, after, quiet_answer(before.held))
+}
+
+// Any call.
+pub fn answer(account: Account, call: Call) -> Outcome
+    requires { ⌜ whole account ≡ true ⌝ }
+    ensures { λ r. ⌜ r ≡ outcome account call ⌝ }
+{
+    match call {
+        Call::Opening {
+            day,
+            reading,
+            digits,
+        } => begin_supply(account, day, reading, digits),
+        Call::Reading { day, reading, fuel } => read_meter(account, day, reading, fuel),
+        Call::Missed { day, fuel } => miss_reading(account, day, fuel),
+        Call::Absent { day, fuel } => note_absence(account, day, fuel),
+        Call::Exchange {
+            day,
+            old,
+            new,
+            digits,
+        } => exchange_meter(account, day, old, new, digits),
+        Call::Disconnection { day, reading, fuel } => disconnect(account, day, reading, fuel),
+        Call::Reconnection {
+            day,
+            reading,
+            digits,
+        } => reconnect(account, day, reading, digits),
+        Call::Cancellation { day, reading, fuel } => cancel(account, day, reading, fuel),
+        Call::Payment { day, yen } => pay(account, day, yen),
+        Call::StoppedCancellation { day } => cancel_stopped(account, day),
+    }
 }
