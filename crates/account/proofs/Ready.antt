@@ -1,5 +1,6 @@
 -- What a call that passed its first checks on a whole account may rely on. Assumes nothing.
-use mathlib.Core.Path.{_≡_, sym, subst}
+use mathlib.Core.Path.{_≡_, sym, ap, subst}
+use mathlib.Core.Logic.{inl, inr, ⊎-elim}
 use mathlib.Core.Bool.{true}
 use mathlib.Core.List.{List}
 use Prim.Native.Nat.{ℕ, _+_, _≤_, _<_}
@@ -24,12 +25,13 @@ use Rattle.account.specs.declared.Status.{Status}
 use Rattle.account.specs.declared.Status.the-variants.{New, Supplied, Stopped, Cancelled}
 use Rattle.account.specs.declared.Account.{Account}
 use Rattle.account.specs.Closing.{startOf, daysOf, ofThisPeriod, netOf}
-use Rattle.account.specs.Calls.{standingEstimates, poolTo, madeFinal, closingPrice, closingNet, closedLedger}
+use Rattle.account.specs.Calls.{standingEstimates, poolTo, madeFinal, closingPrice, closingNet, closedLedger, paidLedger, isCancelled}
 use Rattle.account.specs.Whole.{wholeEstimate, whole}
-use Rattle.account.specs.Refusals.{readingRefusal, missRefusal}
-use Rattle.account.proofs.Facts.{ItemFacts, MeterFacts, LedgerFacts, Facts, StatusFacts, made-facts, whole-facts, estimates-whole, supplied-facts}
-use Rattle.account.proofs.Passed.{ReadingPassed, reading-passed, miss-passed}
-use Rattle.account.proofs.Sound.{Sound, Bounded, item-later, closed-bounded}
+use Rattle.account.specs.Refusals.{readingRefusal, missRefusal, paymentRefusal}
+use Rattle.account.proofs.Facts.{ItemFacts, MeterFacts, LedgerFacts, Facts, StatusFacts, made-facts, whole-facts, estimates-whole, supplied-facts, not-new-facts, cancelled-facts}
+use Rattle.account.proofs.Passed.{ReadingPassed, reading-passed, miss-passed, PaymentPassed, payment-passed}
+use Rattle.account.proofs.Sound.{Sound, Bounded, load, item-later, closed-bounded}
+use Rattle.account.proofs.Sound as Sound
 use Rattle.account.proofs.Nets.{billable, this-within, charge-most, credit-most}
 
 item-bounds : (latest : ℕ) (item : Item) → ItemFacts latest item → ItemBounds item
@@ -185,3 +187,37 @@ module _ (latest day : ℕ) (ledger : Ledger) (w : LedgerFacts latest ledger) (m
 
 pub reading-closed : (a : Account) (day reading : ℕ) (fuel : Fuel) → ReadingReady a day reading fuel → Bounded day (closedLedger a day reading fuel)
 reading-closed a day reading fuel w = ledger-closed (a .latest) day (a .ledger) (w .ledger) (w .day-most) (w .not-before) (closingNet a day reading fuel) (w .net-bounds)
+
+-- 09: what stands after a payment, and on a cancelled account after the interest that it brings is posted.
+pub record PaymentReady (a : Account) (day yen : ℕ) : Type 0 where
+  pub day-most : day ≤ 36494
+  pub yen-most : yen ≤ 1000000000
+  pub bounds : LedgerBounds (a .ledger)
+  pub paid-sound : Sound day (paidLedger a day yen)
+  pub paid-bounded : isCancelled (a .status) ≡ true → Bounded day (paidLedger a day yen)
+
+pub payment-ready : (a : Account) (day yen : ℕ) → whole a ≡ true → paymentRefusal a day yen ≡ 0 → PaymentReady a day yen
+payment-ready a day yen w e =
+    record {
+      day-most = p .day-most;
+      yen-most = omega (arith, p .yen-most);
+      bounds = ledger-bounds (a .latest) (a .ledger) ledger;
+      paid-sound = Sound.paid-sound day yen (standing (a .ledger)) items;
+      paid-bounded = λ cancelled. Sound.paid-bounded day yen (standing (a .ledger)) (p .day-most) (record { sound = before; load-most = load-within cancelled });
+    }
+  where
+    p : PaymentPassed a day yen
+    p = payment-passed a day yen e
+
+    ledger : LedgerFacts (a .latest) (a .ledger)
+    ledger = not-new-facts (a .status) a (p .not-new) (whole-facts a w) .ledger
+
+    items : Every (ItemFacts day) (standing (a .ledger) .open-items)
+    items = items-later (a .latest) day (a .ledger) (p .not-before) ledger
+
+    before : Sound day (standing (a .ledger))
+    before = record { items = items; settled = ⊎-elim inl (λ (none : a .ledger .count ≡ 0). inr (ap (λ n. take n (a .ledger .items)) none)) (ledger .credit-or-none) }
+
+    load-within : isCancelled (a .status) ≡ true → load (standing (a .ledger)) ≤ 740000000000
+    load-within cancelled =
+        omega (arith, cancelled-facts (a .status) a cancelled (whole-facts a w) .0, length-take-most (a .ledger .count) (a .ledger .items), ledger .count-most)

@@ -5,7 +5,7 @@ use mathlib.Core.List.{List, [], _∷_, _++_, append-assoc, append-nil}
 use Prim.Native.Nat.{ℕ, _+_, _-_, _≤_, _<_}
 use native.Mathlib.Nat.{le-refl, add-assoc, add-zero, sub-zero, eq-zero-or-pos}
 use native.Mathlib.Omega.{arith}
-use lib.IntN.{ℤ}
+use lib.IntN.{ℤ, pos}
 use lib.ListN.{length, length-append}
 use borrow.Author.Tests.{le-leb, lt-leb, lt-ltb}
 use Rattle.lists.specs.Every.{Every}
@@ -15,7 +15,7 @@ use Rattle.ledger.specs.declared.Kind.the-variants.{Interest, Price}
 use Rattle.ledger.specs.declared.Item.{Item}
 use Rattle.ledger.specs.Interest.{interestOn}
 use Rattle.ledger.specs.Settling.{reduced, settle}
-use Rattle.ledger.specs.Posting.{Standing, newItem, entered, post, noneHeld, closed, paid, chargeOf, creditOf, Ready}
+use Rattle.ledger.specs.Posting.{Standing, newItem, entered, post, noneHeld, closed, paid, heldPosted, chargeOf, creditOf, Ready}
 use Rattle.ledger.proofs.Interest.{none-in-time}
 use Rattle.ledger.proofs.Settling.{Once, twice-once, left-or-none, settle-keeps, open-most}
 
@@ -129,3 +129,8 @@ closed-steps day net s =
       add-zero (creditOf net),
       add-zero (creditOf net),
     ))
+
+-- A closing with no net posts interest held only.
+pub closed-with-none : (day : ℕ) (s : Standing) → closed day (pos 0) s ≡ heldPosted day s
+unfolding closed heldPosted
+closed-with-none day s = rw (entered-none Price day 0 refl, append-nil (entered Interest day (s .held))) refl

@@ -1,3 +1,5 @@
+use mathlib.Core.Path.{sym, ap, _∙_}
+use Rattle.account.specs.Outcomes.{outcome}
 use borrow.Author.Needs.{needs}
 use Rattle.account.proofs.whole.answer.Statement.{statement}
 use Rattle.account.proofs.whole.answer.Tie as tie
@@ -96,43 +98,43 @@ cancel-stopped-requires c κs = search needs
 
 -- src/whole.rt:452:1
 returns : tie.Need-returns
-returns c = ?
+returns c = c .begin-supply .ensures ∙ sym (ap (outcome (c .before .before .before .before .args .account)) (c .before .before .call .given .1))
 
 -- src/whole.rt:452:1
 returns-2 : tie.Need-returns-2
-returns-2 c = ?
+returns-2 c = c .read-meter .ensures ∙ sym (ap (outcome (c .before .before .before .before .args .account)) (c .before .before .call2 .given .1))
 
 -- src/whole.rt:452:1
 returns-3 : tie.Need-returns-3
-returns-3 c = ?
+returns-3 c = c .miss-reading .ensures ∙ sym (ap (outcome (c .before .before .before .before .args .account)) (c .before .before .call3 .given .1))
 
 -- src/whole.rt:452:1
 returns-4 : tie.Need-returns-4
-returns-4 c = ?
+returns-4 c = c .note-absence .ensures ∙ sym (ap (outcome (c .before .before .before .before .args .account)) (c .before .before .call4 .given .1))
 
 -- src/whole.rt:452:1
 returns-5 : tie.Need-returns-5
-returns-5 c = ?
+returns-5 c = c .exchange-meter .ensures ∙ sym (ap (outcome (c .before .before .before .before .args .account)) (c .before .before .call5 .given .1))
 
 -- src/whole.rt:452:1
 returns-6 : tie.Need-returns-6
-returns-6 c = ?
+returns-6 c = c .disconnect .ensures ∙ sym (ap (outcome (c .before .before .before .before .args .account)) (c .before .before .call6 .given .1))
 
 -- src/whole.rt:452:1
 returns-7 : tie.Need-returns-7
-returns-7 c = ?
+returns-7 c = c .reconnect .ensures ∙ sym (ap (outcome (c .before .before .before .before .args .account)) (c .before .before .call7 .given .1))
 
 -- src/whole.rt:452:1
 returns-8 : tie.Need-returns-8
-returns-8 c = ?
+returns-8 c = c .cancel .ensures ∙ sym (ap (outcome (c .before .before .before .before .args .account)) (c .before .before .call8 .given .1))
 
 -- src/whole.rt:452:1
 returns-9 : tie.Need-returns-9
-returns-9 c = ?
+returns-9 c = c .pay .ensures ∙ sym (ap (outcome (c .before .before .before .before .args .account)) (c .before .before .call9 .given .1))
 
 -- src/whole.rt:452:1
 returns-10 : tie.Need-returns-10
-returns-10 c = ?
+returns-10 c = c .cancel-stopped .ensures ∙ sym (ap (outcome (c .before .before .before .before .args .account)) (c .before .before .call10 .given .1))
 
 pub answer-spec : {M : Type 1} → statement M
 answer-spec =
