@@ -1,11 +1,10 @@
 -- What a call comes to, by the checks that decide it. Assumes nothing.
-use mathlib.Core.Path.{_≡_, refl, sym, subst}
-use mathlib.Core.Bool.{true, false, cond}
+use mathlib.Core.Path.{_≡_, refl, subst}
+use mathlib.Core.Bool.{true, false}
 use mathlib.Core.List.{List}
-use Prim.Native.Nat.{ℕ, _≤_, _<_}
+use Prim.Native.Nat.{ℕ, _≤_}
 use native.Mathlib.Omega.{arith}
-use lib.Dec.{eqb, ltb}
-use borrow.Author.Tests.{leb-true, eq-eqb, ne-eqb, lt-ltb, le-ltb}
+use borrow.Author.Tests.{leb-true, eq-eqb, ne-eqb, lt-ltb}
 use Rattle.meter.specs.Sharing.{volumesOf}
 use Rattle.ledger.specs.declared.Ledger.{Ledger}
 use Rattle.account.specs.declared.Account.{Account}
@@ -15,7 +14,7 @@ use Rattle.account.specs.declared.Call.{Call}
 use Rattle.account.specs.Limits.{itemsAllowed, creditAllowed}
 use Rattle.account.specs.Calls.{Work, work}
 use Rattle.account.specs.Whole.{whole}
-use Rattle.account.specs.Refusals.{unless, firstRefusal, lastRefusal, orElse, refusal}
+use Rattle.account.specs.Refusals.{unless, firstRefusal, lastRefusal, refusal}
 use Rattle.account.specs.Outcomes.{declined, accepted, concluded, outcome}
 use Rattle.account.proofs.Passed.{passes}
 

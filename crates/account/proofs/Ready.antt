@@ -14,9 +14,8 @@ use Rattle.lists.proofs.Pad.{length-take-most}
 use Rattle.tariff.specs.declared.Fuel.{Fuel}
 use Rattle.tariff.specs.Price.{Billable}
 use Rattle.tariff.proofs.Bounds.{price-most}
-use Rattle.meter.specs.declared.Estimate.{Estimate}
 use Rattle.meter.specs.Dial.{OnDial}
-use Rattle.meter.specs.Sharing.{AtMostSix, finalVolumes}
+use Rattle.meter.specs.Sharing.{AtMostSix}
 use Rattle.ledger.specs.declared.Item.{Item}
 use Rattle.ledger.specs.declared.Ledger.{Ledger}
 use Rattle.ledger.specs.Posting.{Standing, standing, stored, closed, capacity, Ready, chargeOf, creditOf, ItemBounds, OpenBounds, LedgerBounds, NetBounds}
@@ -24,7 +23,7 @@ use Rattle.ledger.proofs.Bounds.{stored-bounds}
 use Rattle.account.specs.declared.Status.{Status}
 use Rattle.account.specs.declared.Status.the-variants.{New, Supplied, Stopped, Cancelled}
 use Rattle.account.specs.declared.Account.{Account}
-use Rattle.account.specs.Closing.{startOf, daysOf, ofThisPeriod, netOf}
+use Rattle.account.specs.Closing.{startOf, daysOf, ofThisPeriod}
 use Rattle.account.specs.Calls.{standingEstimates, poolTo, madeFinal, closingPrice, closingNet, closedLedger, paidLedger, isCancelled}
 use Rattle.account.specs.Whole.{wholeEstimate, whole}
 use Rattle.account.specs.Refusals.{readingRefusal, missRefusal, paymentRefusal}

@@ -1,12 +1,16 @@
 // A gas account: its status, what it holds, the calls made on it and their answers.
 ghost use mathlib.Core.Path.{_≡_};
+ghost use Rattle.account.specs.declared.Call.the-variants.{Opening, Reading, Missed, Absent, Exchange, Disconnection, Reconnection, Cancellation, Payment, StoppedCancellation};
 ghost use Rattle.account.specs.Calls.{newAccount};
+ghost use Rattle.account.specs.Outcomes.{outcome};
 
 pub mod closing;
 pub mod refusals;
 pub mod validity;
 pub mod whole;
 
+use crate::validity::is_whole;
+use crate::whole::decline;
 use crate::whole::no_estimates;
 use ledger::Ledger;
 use meter::Estimates;
@@ -125,5 +129,98 @@ impl Account {
             estimates: no_estimates(),
             ledger: ledger,
         }
+    }
+
+    // 01
+    pub fn begin_supply(mut self, day: u16, reading: u32, digits: u8) -> Outcome
+        ensures { λ r. ⌜ r ≡ outcome self (Opening day reading digits) ⌝ }
+    {
+        self.apply(Call::Opening {
+            day,
+            reading,
+            digits,
+        })
+    }
+
+    // 02
+    pub fn read_meter(mut self, day: u16, reading: u32, fuel: Fuel) -> Outcome
+        ensures { λ r. ⌜ r ≡ outcome self (Reading day reading fuel) ⌝ }
+    {
+        self.apply(Call::Reading { day, reading, fuel })
+    }
+
+    // 03
+    pub fn miss_reading(mut self, day: u16, fuel: Fuel) -> Outcome
+        ensures { λ r. ⌜ r ≡ outcome self (Missed day fuel) ⌝ }
+    {
+        self.apply(Call::Missed { day, fuel })
+    }
+
+    // 04
+    pub fn note_absence(mut self, day: u16, fuel: Fuel) -> Outcome
+        ensures { λ r. ⌜ r ≡ outcome self (Absent day fuel) ⌝ }
+    {
+        self.apply(Call::Absent { day, fuel })
+    }
+
+    // 05
+    pub fn exchange_meter(mut self, day: u16, old: u32, new: u32, digits: u8) -> Outcome
+        ensures { λ r. ⌜ r ≡ outcome self (Exchange day old new digits) ⌝ }
+    {
+        self.apply(Call::Exchange {
+            day,
+            old,
+            new,
+            digits,
+        })
+    }
+
+    // 06
+    pub fn disconnect(mut self, day: u16, reading: u32, fuel: Fuel) -> Outcome
+        ensures { λ r. ⌜ r ≡ outcome self (Disconnection day reading fuel) ⌝ }
+    {
+        self.apply(Call::Disconnection { day, reading, fuel })
+    }
+
+    // 07
+    pub fn reconnect(mut self, day: u16, reading: u32, digits: u8) -> Outcome
+        ensures { λ r. ⌜ r ≡ outcome self (Reconnection day reading digits) ⌝ }
+    {
+        self.apply(Call::Reconnection {
+            day,
+            reading,
+            digits,
+        })
+    }
+
+    // 08
+    pub fn cancel(mut self, day: u16, reading: u32, fuel: Fuel) -> Outcome
+        ensures { λ r. ⌜ r ≡ outcome self (Cancellation day reading fuel) ⌝ }
+    {
+        self.apply(Call::Cancellation { day, reading, fuel })
+    }
+
+    // 09
+    pub fn pay(mut self, day: u16, yen: u32) -> Outcome
+        ensures { λ r. ⌜ r ≡ outcome self (Payment day yen) ⌝ }
+    {
+        self.apply(Call::Payment { day, yen })
+    }
+
+    // 0a
+    pub fn cancel_stopped(mut self, day: u16) -> Outcome
+        ensures { λ r. ⌜ r ≡ outcome self (StoppedCancellation day) ⌝ }
+    {
+        self.apply(Call::StoppedCancellation { day })
+    }
+
+    // Any of the ten.
+    pub fn apply(mut self, call: Call) -> Outcome
+        ensures { λ r. ⌜ r ≡ outcome self call ⌝ }
+    {
+        if !is_whole(self) {
+            return decline(self, 41);
+        }
+        whole::answer(self, call)
     }
 }

@@ -1,6 +1,6 @@
 // When a call on a whole account is declined: numbers 1 to 13, in the paper's order. 0 stands for none.
 ghost use mathlib.Core.Path.{_≡_};
-ghost use mathlib.Core.Bool.{true, not};
+ghost use mathlib.Core.Bool.{true};
 ghost use Prim.Native.Nat.{_≤_};
 ghost use Rattle.meter.specs.Dial.{OnDial};
 ghost use Rattle.account.specs.Closing.{startOf, stopOf};

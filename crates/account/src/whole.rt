@@ -8,7 +8,7 @@ ghost use Rattle.meter.specs.Sharing.{standing, volumesOf};
 ghost use Rattle.ledger.specs.Posting.{capacity, OpenBounds};
 ghost use Rattle.account.specs.declared.Call.the-variants.{Opening, Reading, Missed, Absent, Exchange, Disconnection, Reconnection, Cancellation, Payment, StoppedCancellation};
 ghost use Rattle.account.specs.Closing.{resumedStart, storedEstimates};
-ghost use Rattle.account.specs.Calls.{begun, exchanged, read, cancelled, missed, payment, stoppedCancellation};
+ghost use Rattle.account.specs.Calls.{begun, read, cancelled, missed, payment};
 ghost use Rattle.account.specs.Whole.{whole};
 ghost use Rattle.account.specs.Refusals.{readingRefusal, missRefusal, paymentRefusal};
 ghost use Rattle.account.specs.Outcomes.{declined, concluded, outcome};

@@ -8,12 +8,10 @@ use native.Mathlib.Nat.{zero-add, add-zero, eq-zero-or-pos}
 use native.Mathlib.Omega.{arith}
 use lib.Dec.{ltb}
 use lib.IntN.{ℤ, pos, negsuc}
-use lib.ListN.{length, take}
-use lib.Seq.{take-all}
+use lib.ListN.{length}
 use borrow.Author.Tests.{lt-ltb}
 use Rattle.lists.specs.Every.{Every}
 use Rattle.lists.proofs.Sum.{total-append}
-use Rattle.lists.proofs.Pad.{take-pad}
 use Rattle.lists.proofs.Every.{every-append}
 use Rattle.ledger.specs.declared.Kind.{Kind}
 use Rattle.ledger.specs.declared.Kind.the-variants.{Interest, Price}
@@ -21,7 +19,7 @@ use Rattle.ledger.specs.declared.Ledger.{Ledger}
 use Rattle.ledger.specs.Interest.{isPrice}
 use Rattle.ledger.specs.Settling.{settle, unpaidOf}
 use Rattle.ledger.specs.Posting
-use Rattle.ledger.specs.Posting.{Standing, standing, stored, entered, post, paid, heldPosted, chargeOf, creditOf, blank, capacity}
+use Rattle.ledger.specs.Posting.{Standing, standing, stored, entered, post, paid, heldPosted, chargeOf, creditOf, capacity}
 use Rattle.ledger.proofs.Settling.{Once, twice-once, day-left, day-open, conserved}
 use Rattle.ledger.proofs.Bounds.{standing-stored}
 use Rattle.audit.specs.Book

@@ -1,6 +1,6 @@
 -- Demand 3: both sums, wholeness, and declined calls, after every list of calls from a new account. Assumes nothing.
 use mathlib.Core.Path.{_≡_, refl, ap, subst}
-use mathlib.Core.Bool.{Bool, true, false, not, false≢true}
+use mathlib.Core.Bool.{Bool, true, false, false≢true}
 use mathlib.Core.List.{List, [], _∷_}
 use Prim.Native.Nat.{_+_}
 use native.Mathlib.Nat.{zero-add}
@@ -13,9 +13,8 @@ use Rattle.ledger.specs.Settling.{unpaidOf}
 use Rattle.account.specs.declared.Account.{Account}
 use Rattle.account.specs.declared.Call.{Call}
 use Rattle.account.specs.declared.Call.the-variants.{Opening, Reading, Missed, Absent, Exchange, Disconnection, Reconnection, Cancellation, Payment, StoppedCancellation}
-use Rattle.account.specs.Limits.{paymentAllowed}
 use Rattle.account.specs.Calls.{Work, work}
-use Rattle.account.specs.Refusals.{unless, isNew, isStopped, firstRefusal, refusal}
+use Rattle.account.specs.Refusals.{isNew, isStopped, firstRefusal, refusal}
 use Rattle.account.specs.Outcomes.{accepted, declined, outcome}
 use Rattle.account.specs.Whole.{asMade, whole}
 use Rattle.account.proofs.Facts.{facts-whole}

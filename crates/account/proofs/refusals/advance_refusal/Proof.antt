@@ -1,36 +1,26 @@
+use mathlib.Core.Path.{refl}
 use native.Mathlib.Omega.{arith}
-use Rattle.meter.proofs.Dial.{advance-within, span-most}
-use borrow.Author.Tests.{eq-eqb, ne-eqb, le-leb, lt-leb, lt-ltb, le-ltb, not-true, not-false}
-use mathlib.Core.Path.{_≡_, refl, sym, _∙_}
+use borrow.Author.Tests.{le-leb, lt-leb, not-true, not-false}
 use borrow.Author.Needs.{needs}
+use Rattle.meter.proofs.Dial.{advance-within, span-most}
 use Rattle.account.proofs.refusals.advance_refusal.Statement.{statement}
 use Rattle.account.proofs.refusals.advance_refusal.Tie as tie
-use Rattle.account.proofs.refusals.advance_refusal.Reads as reads
-use Rattle.account.proofs.refusals.advance_refusal.Lts as lts
-use Rattle.meter.proofs.dial_advance.Reads as dial-advance-reads
-use Rattle.meter.proofs.within_half.Reads as within-half-reads
 
--- src/refusals.rt:97:9
 dial-advance-requires : tie.Need-dial-advance-requires
 dial-advance-requires c κs = search needs
 
--- src/refusals.rt:98:9
 within-half-requires : tie.Need-within-half-requires
 within-half-requires c κs = search needs
 
--- src/refusals.rt:99:9
 returns : tie.Need-returns
 returns c = rw (← c .before .before .dial-advance .ensures, ← c .before .within-half .ensures, not-true (c .before .within-half .result) (c .if1 .taken)) refl
 
--- src/refusals.rt:101:8
 add-if2 : tie.Need-add-if2
 add-if2 c = omega (arith, c .before .before .before .dial-advance .ensures, c .before .before .before .before .pre .1, advance-within (c .before .before .before .before .args .account .digits) (c .before .before .before .before .args .account .dial) (c .before .before .before .before .args .reading) (c .before .before .before .before .pre .0), span-most (c .before .before .before .before .args .account .digits) (c .before .before .before .before .pre .0 .digits-within))
 
--- src/refusals.rt:102:9
 returns-2 : tie.Need-returns-2
 returns-2 c = rw (← c .before .before .before .before .dial-advance .ensures, ← c .before .before .before .within-half .ensures, not-false (c .before .before .before .within-half .result) (c .before .before .if1 .left), lt-leb _ _ (c .if2 .taken)) refl
 
--- src/refusals.rt:92:1
 returns-3 : tie.Need-returns-3
 returns-3 c = rw (← c .before .before .before .before .dial-advance .ensures, ← c .before .before .before .within-half .ensures, not-false (c .before .before .before .within-half .result) (c .before .before .if1 .left), le-leb _ _ (c .if2 .left)) refl
 

@@ -1,44 +1,32 @@
-use borrow.Author.Tests.{eq-eqb, ne-eqb, le-leb, lt-leb, lt-ltb, le-ltb, not-true, not-false}
-use mathlib.Core.Path.{_≡_, refl, sym, _∙_}
-use Rattle.account.proofs.Passed.{begins-declined, begins-passed}
-use Rattle.account.proofs.Tests.{within-low, within-high}
+use mathlib.Core.Path.{refl, sym, _∙_}
+use borrow.Author.Tests.{not-true, not-false}
+use borrow.Author.Needs.{needs}
 use Rattle.account.specs.Limits.{digitsAllowed, onDial}
 use Rattle.account.specs.Refusals.{unless}
-use borrow.Author.Needs.{needs}
+use Rattle.account.proofs.Passed.{begins-declined, begins-passed}
+use Rattle.account.proofs.Tests.{within-low, within-high}
 use Rattle.account.proofs.refusals.dial_refusal.Statement.{statement}
 use Rattle.account.proofs.refusals.dial_refusal.Tie as tie
-use Rattle.account.proofs.refusals.dial_refusal.Reads as reads
-use Rattle.account.proofs.refusals.dial_refusal.Lts as lts
-use Rattle.account.proofs.refusals.start_refusal.Reads as start-refusal-reads
-use Rattle.account.proofs.validity.digits_allowed.Reads as digits-allowed-reads
-use Rattle.account.proofs.validity.on_dial.Reads as on-dial-reads
 
--- src/refusals.rt:155:9
 start-refusal-requires : tie.Need-start-refusal-requires
 start-refusal-requires c κs = search needs
 
--- src/refusals.rt:157:9
 returns : tie.Need-returns
 returns c = begins-declined (c .before .before .args .allowed) (c .before .before .args .account .latest) (c .before .before .args .day) (unless (digitsAllowed (c .before .before .args .digits)) 4 (unless (onDial (c .before .before .args .digits) (c .before .before .args .reading)) 5 0)) (c .before .start-refusal .result) (c .before .start-refusal .ensures) (c .if1 .taken)
 
--- src/refusals.rt:159:9
 digits-allowed-requires : tie.Need-digits-allowed-requires
 digits-allowed-requires c κs = search needs
 
--- src/refusals.rt:160:9
 returns-2 : tie.Need-returns-2
 returns-2 c = rw (begins-passed (c .before .before .before .before .args .allowed) (c .before .before .before .before .args .account .latest) (c .before .before .before .before .args .day) (unless (digitsAllowed (c .before .before .before .before .args .digits)) 4 (unless (onDial (c .before .before .before .before .args .digits) (c .before .before .before .before .args .reading)) 5 0)) (c .before .before .before .start-refusal .result) (c .before .before .before .start-refusal .ensures) (c .before .before .if1 .left), ← c .before .digits-allowed .ensures, not-true (c .before .digits-allowed .result) (c .if2 .taken)) refl
 
--- src/refusals.rt:162:9
 on-dial-requires : tie.Need-on-dial-requires
 on-dial-requires c κs = let allowed = sym (c .before .digits-allowed .ensures) ∙ not-false (c .before .digits-allowed .result) (c .if2 .left) in
     (within-low 4 5 (c .before .before .before .before .args .digits) allowed, within-high 4 5 (c .before .before .before .before .args .digits) allowed)
 
--- src/refusals.rt:163:9
 returns-3 : tie.Need-returns-3
 returns-3 c = rw (begins-passed (c .before .before .before .before .before .before .args .allowed) (c .before .before .before .before .before .before .args .account .latest) (c .before .before .before .before .before .before .args .day) (unless (digitsAllowed (c .before .before .before .before .before .before .args .digits)) 4 (unless (onDial (c .before .before .before .before .before .before .args .digits) (c .before .before .before .before .before .before .args .reading)) 5 0)) (c .before .before .before .before .before .start-refusal .result) (c .before .before .before .before .before .start-refusal .ensures) (c .before .before .before .before .if1 .left), ← c .before .before .before .digits-allowed .ensures, not-false (c .before .before .before .digits-allowed .result) (c .before .before .if2 .left), ← c .before .on-dial .ensures, not-true (c .before .on-dial .result) (c .if3 .taken)) refl
 
--- src/refusals.rt:152:1
 returns-4 : tie.Need-returns-4
 returns-4 c = rw (begins-passed (c .before .before .before .before .before .before .args .allowed) (c .before .before .before .before .before .before .args .account .latest) (c .before .before .before .before .before .before .args .day) (unless (digitsAllowed (c .before .before .before .before .before .before .args .digits)) 4 (unless (onDial (c .before .before .before .before .before .before .args .digits) (c .before .before .before .before .before .before .args .reading)) 5 0)) (c .before .before .before .before .before .start-refusal .result) (c .before .before .before .before .before .start-refusal .ensures) (c .before .before .before .before .if1 .left), ← c .before .before .before .digits-allowed .ensures, not-false (c .before .before .before .digits-allowed .result) (c .before .before .if2 .left), ← c .before .on-dial .ensures, not-false (c .before .on-dial .result) (c .if3 .left)) refl
 

@@ -1,19 +1,14 @@
-use borrow.Author.Tests.{eq-eqb, ne-eqb, le-leb, lt-leb, lt-ltb, le-ltb, not-true, not-false}
-use mathlib.Core.Path.{_≡_, refl, sym, _∙_}
+use mathlib.Core.Path.{refl}
+use borrow.Author.Tests.{le-leb, lt-leb}
 use Rattle.account.proofs.refusals.limit_refusal.Statement.{statement}
 use Rattle.account.proofs.refusals.limit_refusal.Tie as tie
-use Rattle.account.proofs.refusals.limit_refusal.Reads as reads
-use Rattle.account.proofs.refusals.limit_refusal.Lts as lts
 
--- src/refusals.rt:213:9
 returns : tie.Need-returns
 returns c = rw (lt-leb _ _ (c .if1 .taken)) refl
 
--- src/refusals.rt:216:9
 returns-2 : tie.Need-returns-2
 returns-2 c = rw (le-leb _ _ (c .before .before .if1 .left), lt-leb _ _ (c .if2 .taken)) refl
 
--- src/refusals.rt:209:1
 returns-3 : tie.Need-returns-3
 returns-3 c = rw (le-leb _ _ (c .before .before .if1 .left), le-leb _ _ (c .if2 .left)) refl
 

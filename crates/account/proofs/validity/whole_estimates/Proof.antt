@@ -1,21 +1,18 @@
 use mathlib.Core.Path.{_≡_, refl, sym, _∙_}
 use mathlib.Core.Bool.{true}
-use Prim.Native.Nat.{_-_, _≤_, _<_}
+use Prim.Native.Nat.{_-_, _≤_}
 use native.Mathlib.Omega.{arith}
 use native.Mathlib.Numerals.{add-one}
-use lib.ListN.{length, getD, take}
+use lib.ListN.{length, take}
 use borrow.Author.Needs.{needs}
+use borrow.Author.Tests.{not-true, not-false}
 use Rattle.lists.proofs.Pad.{length-of-mapped}
 use Rattle.lists.specs.Every.{every}
 use Rattle.lists.proofs.Every.{every-next, every-fails}
-use borrow.Author.Tests.{not-true, not-false}
-use Rattle.account.specs.Whole.{wholeEstimate}
 use Rattle.meter.specs.Sharing.{blank}
+use Rattle.account.specs.Whole.{wholeEstimate}
 use Rattle.account.proofs.validity.whole_estimates.Statement.{statement}
 use Rattle.account.proofs.validity.whole_estimates.Tie as tie
-use Rattle.account.proofs.validity.whole_estimates.Reads as reads
-use Rattle.account.proofs.validity.whole_estimates.Lts as lts
-use Rattle.account.proofs.validity.whole_estimate.Reads as whole-estimate-reads
 
 abbrev Inv-loop : tie.InvT-loop
 Inv-loop estimates count i₀ i = (i ≤ count) × (every wholeEstimate (take i (estimates .periods)) ≡ true) × (count ≤ 6)
@@ -23,41 +20,32 @@ Inv-loop estimates count i₀ i = (i ≤ count) × (every wholeEstimate (take i 
 abbrev μ-loop : tie.MeasureT-loop
 μ-loop estimates count i₀ i = count - i
 
--- src/validity.rt:104:5
 loop-holds : tie.Need-loop-holds Inv-loop μ-loop
 loop-holds c = (omega arith, refl, c .pre)
 
--- src/validity.rt:105:24
 mul-estimate : tie.Need-mul-estimate Inv-loop μ-loop
 mul-estimate c = search needs
 
--- src/validity.rt:105:24
 element-copy-out-estimate : tie.Need-element-copy-out-estimate Inv-loop μ-loop
 element-copy-out-estimate c = search needs
 
--- src/validity.rt:106:13
 whole-estimate-requires : tie.Need-whole-estimate-requires Inv-loop μ-loop
 whole-estimate-requires c κs = tt
 
--- src/validity.rt:107:13
 returns : tie.Need-returns Inv-loop μ-loop
 returns c = let long : length (c .before .before .before .before .before .args .t1 .periods) ≡ 6 = search (length-of-mapped, needs) in
     sym (every-fails wholeEstimate (c .before .before .before .before .before .args .t1 .periods) (c .before .before .before .before .before .args .t1 .count) (c .before .before .before .before .loop .i) blank (omega arith) (omega arith) (sym (c .before .whole-estimate .ensures) ∙ not-true (c .before .whole-estimate .result) (c .if1 .taken)))
 
--- src/validity.rt:109:9
 add-i : tie.Need-add-i Inv-loop μ-loop
 add-i c = omega arith
 
--- src/validity.rt:104:5
 loop-less : tie.Need-loop-less Inv-loop μ-loop
 loop-less c = omega arith
 
--- src/validity.rt:104:5
 loop-again : tie.Need-loop-again Inv-loop μ-loop
 loop-again c = let long : length (c .before .before .before .before .before .args .t1 .periods) ≡ 6 = search (length-of-mapped, needs) in
     (omega arith, rw (add-one (c .before .before .before .before .loop .i)) (every-next wholeEstimate (c .before .before .before .before .before .args .t1 .periods) (c .before .before .before .before .loop .i) blank (omega arith) (c .before .before .before .before .loop .inv .1) (sym (c .before .whole-estimate .ensures) ∙ not-false (c .before .whole-estimate .result) (c .if1 .left))), c .before .before .before .before .loop .inv .2)
 
--- src/validity.rt:98:1
 returns-2 : tie.Need-returns-2 Inv-loop μ-loop
 returns-2 c = let done : c .before .loop .i ≡ c .before .before .args .t1 .count = omega arith in
     rw (← done) (sym (c .before .loop .inv .1))

@@ -1,38 +1,29 @@
-use borrow.Author.Tests.{eq-eqb, ne-eqb, le-leb, lt-leb, lt-ltb, le-ltb, not-true, not-false}
-use mathlib.Core.Path.{_≡_, refl, sym}
-use Rattle.account.specs.Whole.{wholeItem}
+use mathlib.Core.Path.{refl}
+use borrow.Author.Tests.{le-leb, lt-leb}
 use borrow.Author.Needs.{needs}
+use Rattle.account.specs.Whole.{wholeItem}
 use Rattle.account.proofs.validity.whole_item.Statement.{statement}
 use Rattle.account.proofs.validity.whole_item.Tie as tie
-use Rattle.account.proofs.validity.whole_item.Reads as reads
-use Rattle.account.proofs.validity.whole_item.Lts as lts
-use Rattle.account.proofs.validity.amount_limit.Reads as amount-limit-reads
 
--- src/validity.rt:168:9
 returns : tie.Need-returns
 unfolding wholeItem
 returns c = rw (lt-leb _ _ (c .if1 .taken)) refl
 
--- src/validity.rt:171:9
 returns-2 : tie.Need-returns-2
 unfolding wholeItem
 returns-2 c = rw (le-leb _ _ (c .before .before .if1 .left), lt-leb _ _ (c .if2 .taken)) refl
 
--- src/validity.rt:173:22
 amount-limit-requires : tie.Need-amount-limit-requires
 amount-limit-requires c κs = search needs
 
--- src/validity.rt:174:9
 returns-3 : tie.Need-returns-3
 unfolding wholeItem
 returns-3 c = rw (le-leb _ _ (c .before .before .before .before .before .if1 .left), le-leb _ _ (c .before .before .before .if2 .left), ← c .before .before .amount-limit .ensures, lt-leb _ _ (c .if3 .taken)) refl
 
--- src/validity.rt:163:1
 returns-4 : tie.Need-returns-4
 unfolding wholeItem
 returns-4 c = rw (le-leb _ _ (c .before .before .before .before .before .before .before .before .if1 .left), le-leb _ _ (c .before .before .before .before .before .before .if2 .left), ← c .before .before .before .before .before .amount-limit .ensures, le-leb _ _ (c .before .before .before .if3 .left), le-leb _ _ (c .before .if4 .taken)) refl
 
--- src/validity.rt:163:1
 returns-5 : tie.Need-returns-5
 unfolding wholeItem
 returns-5 c = rw (le-leb _ _ (c .before .before .before .before .before .before .before .if1 .left), le-leb _ _ (c .before .before .before .before .before .if2 .left), ← c .before .before .before .before .amount-limit .ensures, le-leb _ _ (c .before .before .if3 .left), lt-leb _ _ (c .if4 .left)) refl

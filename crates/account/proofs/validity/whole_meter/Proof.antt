@@ -1,61 +1,45 @@
-use borrow.Author.Tests.{eq-eqb, ne-eqb, le-leb, lt-leb, lt-ltb, le-ltb, not-true, not-false}
-use mathlib.Core.Path.{_≡_, refl, sym}
+use mathlib.Core.Path.{refl, sym, _∙_}
+use borrow.Author.Tests.{le-leb, lt-leb, not-true, not-false}
+use borrow.Author.Needs.{needs}
 use Rattle.account.specs.Whole.{wholeMeter}
 use Rattle.account.proofs.Tests.{within-low, within-high}
-use mathlib.Core.Path.{_∙_}
-use borrow.Author.Needs.{needs}
 use Rattle.account.proofs.validity.whole_meter.Statement.{statement}
 use Rattle.account.proofs.validity.whole_meter.Tie as tie
-use Rattle.account.proofs.validity.whole_meter.Reads as reads
-use Rattle.account.proofs.validity.whole_meter.Lts as lts
-use Rattle.account.proofs.validity.digits_allowed.Reads as digits-allowed-reads
-use Rattle.account.proofs.validity.on_dial.Reads as on-dial-reads
-use Rattle.account.proofs.validity.whole_estimates.Reads as whole-estimates-reads
 
--- src/validity.rt:78:9
 returns : tie.Need-returns
 unfolding wholeMeter
 returns c = rw (lt-leb _ _ (c .if1 .taken)) refl
 
--- src/validity.rt:80:9
 digits-allowed-requires : tie.Need-digits-allowed-requires
 digits-allowed-requires c κs = search needs
 
--- src/validity.rt:81:9
 returns-2 : tie.Need-returns-2
 unfolding wholeMeter
 returns-2 c = rw (le-leb _ _ (c .before .before .if1 .left), ← c .before .digits-allowed .ensures, not-true (c .before .digits-allowed .result) (c .if2 .taken)) refl
 
--- src/validity.rt:83:9
 on-dial-requires : tie.Need-on-dial-requires
 on-dial-requires c κs = let allowed = sym (c .before .digits-allowed .ensures) ∙ not-false (c .before .digits-allowed .result) (c .if2 .left) in
     (within-low 4 5 (c .before .before .before .before .args .account .digits) allowed, within-high 4 5 (c .before .before .before .before .args .account .digits) allowed)
 
--- src/validity.rt:84:9
 returns-3 : tie.Need-returns-3
 unfolding wholeMeter
 returns-3 c = rw (le-leb _ _ (c .before .before .before .before .if1 .left), ← c .before .before .before .digits-allowed .ensures, not-false (c .before .before .before .digits-allowed .result) (c .before .before .if2 .left), ← c .before .on-dial .ensures, not-true (c .before .on-dial .result) (c .if3 .taken)) refl
 
--- src/validity.rt:87:9
 returns-4 : tie.Need-returns-4
 unfolding wholeMeter
 returns-4 c = rw (le-leb _ _ (c .before .before .before .before .before .before .if1 .left), ← c .before .before .before .before .before .digits-allowed .ensures, not-false (c .before .before .before .before .before .digits-allowed .result) (c .before .before .before .before .if2 .left), ← c .before .before .before .on-dial .ensures, not-false (c .before .before .before .on-dial .result) (c .before .before .if3 .left), lt-leb _ _ (c .if4 .taken)) refl
 
--- src/validity.rt:90:9
 returns-5 : tie.Need-returns-5
 unfolding wholeMeter
 returns-5 c = rw (le-leb _ _ (c .before .before .before .before .before .before .before .before .if1 .left), ← c .before .before .before .before .before .before .before .digits-allowed .ensures, not-false (c .before .before .before .before .before .before .before .digits-allowed .result) (c .before .before .before .before .before .before .if2 .left), ← c .before .before .before .before .before .on-dial .ensures, not-false (c .before .before .before .before .before .on-dial .result) (c .before .before .before .before .if3 .left), le-leb _ _ (c .before .before .if4 .left), lt-leb _ _ (c .if5 .taken)) refl
 
--- src/validity.rt:93:9
 returns-6 : tie.Need-returns-6
 unfolding wholeMeter
 returns-6 c = rw (le-leb _ _ (c .before .before .before .before .before .before .before .before .before .before .if1 .left), ← c .before .before .before .before .before .before .before .before .before .digits-allowed .ensures, not-false (c .before .before .before .before .before .before .before .before .before .digits-allowed .result) (c .before .before .before .before .before .before .before .before .if2 .left), ← c .before .before .before .before .before .before .before .on-dial .ensures, not-false (c .before .before .before .before .before .before .before .on-dial .result) (c .before .before .before .before .before .before .if3 .left), le-leb _ _ (c .before .before .before .before .if4 .left), le-leb _ _ (c .before .before .if5 .left), lt-leb _ _ (c .if6 .taken)) refl
 
--- src/validity.rt:95:5
 whole-estimates-requires : tie.Need-whole-estimates-requires
 whole-estimates-requires c κs = search needs
 
--- src/validity.rt:74:1
 returns-7 : tie.Need-returns-7
 unfolding wholeMeter
 returns-7 c = rw (le-leb _ _ (c .before .before .before .before .before .before .before .before .before .before .before .if1 .left), ← c .before .before .before .before .before .before .before .before .before .before .digits-allowed .ensures, not-false (c .before .before .before .before .before .before .before .before .before .before .digits-allowed .result) (c .before .before .before .before .before .before .before .before .before .if2 .left), ← c .before .before .before .before .before .before .before .before .on-dial .ensures, not-false (c .before .before .before .before .before .before .before .before .on-dial .result) (c .before .before .before .before .before .before .before .if3 .left), le-leb _ _ (c .before .before .before .before .before .if4 .left), le-leb _ _ (c .before .before .before .if5 .left), le-leb _ _ (c .before .if6 .left)) (c .whole-estimates .ensures)

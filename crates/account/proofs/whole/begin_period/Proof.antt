@@ -1,26 +1,19 @@
 use mathlib.Core.Path.{refl}
 use mathlib.Core.List.{[]}
 use lib.IntN.{pos}
+use borrow.Author.Needs.{needs}
 use Rattle.meter.specs.Sharing.{volumesOf}
 use Rattle.account.specs.Calls.{begun}
 use Rattle.account.proofs.Concluding.{concludes-with}
-use borrow.Author.Needs.{needs}
 use Rattle.account.proofs.whole.begin_period.Statement.{statement}
 use Rattle.account.proofs.whole.begin_period.Tie as tie
-use Rattle.account.proofs.whole.begin_period.Reads as reads
-use Rattle.account.proofs.whole.begin_period.Lts as lts
-use Rattle.account.proofs.whole.finish.Reads as finish-reads
-use Rattle.account.proofs.whole.quiet_answer.Reads as quiet-answer-reads
 
--- src/whole.rt:131:28
 quiet-answer-requires : tie.Need-quiet-answer-requires
 quiet-answer-requires c κs = search needs
 
--- src/whole.rt:131:5
 finish-requires : tie.Need-finish-requires
 finish-requires c κs = search needs
 
--- src/whole.rt:120:1
 returns : tie.Need-returns
 returns c = concludes-with (c .before .before .before .before .args .account) (begun (c .before .before .before .before .args .account) (c .before .before .before .before .args .day) (c .before .before .before .before .args .reading) (c .before .before .before .before .args .digits) (c .before .before .before .before .args .start) .account) (begun (c .before .before .before .before .args .account) (c .before .before .before .before .args .day) (c .before .before .before .before .args .reading) (c .before .before .before .before .args .digits) (c .before .before .before .before .args .start) .account) (c .finish .result) (c .before .quiet-answer .result) (record { number = 0; estimated = 0; volumes = volumesOf []; net = pos 0; interest = 0; unpaid = 0; credit = 0 }) refl (c .before .quiet-answer .ensures) (c .finish .ensures) [] refl
 

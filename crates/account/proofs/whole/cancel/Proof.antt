@@ -1,16 +1,11 @@
 use mathlib.Core.Path.{_≡_, sym, _∙_}
+use borrow.Author.Needs.{needs}
 use Rattle.account.specs.Calls.{work}
 use Rattle.account.specs.Refusals.{firstRefusal}
 use Rattle.account.specs.declared.Call.the-variants.{Cancellation}
 use Rattle.account.proofs.Concluding.{outcome-declined, outcome-concluded}
-use borrow.Author.Needs.{needs}
 use Rattle.account.proofs.whole.cancel.Statement.{statement}
 use Rattle.account.proofs.whole.cancel.Tie as tie
-use Rattle.account.proofs.whole.cancel.Reads as reads
-use Rattle.account.proofs.whole.cancel.Lts as lts
-use Rattle.account.proofs.refusals.reading_refusal.Reads as reading-refusal-reads
-use Rattle.account.proofs.whole.close_cancelled.Reads as close-cancelled-reads
-use Rattle.account.proofs.whole.decline.Reads as decline-reads
 
 number-is : (c : tie.After-reading-refusal) → c .reading-refusal .result ≡ firstRefusal (c .before .args .account) (Cancellation (c .before .args .day) (c .before .args .reading) (c .before .args .fuel))
 unfolding firstRefusal
@@ -19,23 +14,18 @@ number-is c = c .reading-refusal .ensures
 passed-first : (c : tie.Else1) → firstRefusal (c .before .before .args .account) (Cancellation (c .before .before .args .day) (c .before .before .args .reading) (c .before .before .args .fuel)) ≡ 0
 passed-first c = sym (number-is (c .before)) ∙ c .if1 .left
 
--- src/whole.rt:273:9
 reading-refusal-requires : tie.Need-reading-refusal-requires
 reading-refusal-requires c κs = search needs
 
--- src/whole.rt:275:9
 decline-requires : tie.Need-decline-requires
 decline-requires c κs = search needs
 
--- src/whole.rt:275:9
 returns : tie.Need-returns
 returns c = c .decline .ensures ∙ sym (outcome-declined (c .before .before .before .args .account) (Cancellation (c .before .before .before .args .day) (c .before .before .before .args .reading) (c .before .before .before .args .fuel)) (c .before .before .before .pre) (c .before .before .reading-refusal .result) (number-is (c .before .before)) (c .before .if1 .taken))
 
--- src/whole.rt:277:5
 close-cancelled-requires : tie.Need-close-cancelled-requires
 close-cancelled-requires c κs = search needs
 
--- src/whole.rt:269:1
 returns-2 : tie.Need-returns-2
 unfolding work
 returns-2 c = c .close-cancelled .ensures ∙ sym (outcome-concluded (c .before .before .before .args .account) (Cancellation (c .before .before .before .args .day) (c .before .before .before .args .reading) (c .before .before .before .args .fuel)) (c .before .before .before .pre) (passed-first (c .before)))

@@ -3,6 +3,7 @@ use mathlib.Core.List.{[]}
 use Prim.Native.Nat.{_≤_}
 use native.Mathlib.Omega.{arith}
 use lib.IntN.{pos}
+use borrow.Author.Needs.{needs}
 use Rattle.meter.specs.Sharing.{volumesOf}
 use Rattle.ledger.specs.declared.Ledger.{Ledger}
 use Rattle.ledger.specs.Posting.{capacity, OpenBounds, standing, stored, heldPosted}
@@ -17,17 +18,8 @@ use Rattle.account.proofs.Passed.{Begun, begun}
 use Rattle.account.proofs.Sound.{Sound, posted-sound}
 use Rattle.account.proofs.Ready.{ledger-bounds, items-later, sound-open}
 use Rattle.account.proofs.Concluding.{concludes-with, outcome-declined, outcome-concluded}
-use borrow.Author.Needs.{needs}
 use Rattle.account.proofs.whole.cancel_stopped.Statement.{statement}
 use Rattle.account.proofs.whole.cancel_stopped.Tie as tie
-use Rattle.account.proofs.whole.cancel_stopped.Reads as reads
-use Rattle.account.proofs.whole.cancel_stopped.Lts as lts
-use Rattle.account.proofs.refusals.is_stopped.Reads as is-stopped-reads
-use Rattle.account.proofs.refusals.start_refusal.Reads as start-refusal-reads
-use Rattle.account.proofs.whole.decline.Reads as decline-reads
-use Rattle.account.proofs.whole.finish.Reads as finish-reads
-use Rattle.account.proofs.whole.quiet_answer.Reads as quiet-answer-reads
-use Rattle.ledger.proofs.Ledger.close.Reads as close-reads
 
 number-is : (c : tie.After-start-refusal) → c .start-refusal .result ≡ firstRefusal (c .before .before .before .args .account) (StoppedCancellation (c .before .before .before .args .day))
 unfolding firstRefusal
@@ -49,35 +41,27 @@ posted-is c = c .close .ensures ∙ ap stored (closed-with-none (c .before .befo
 after-posted : (c : tie.Else1) → Sound (c .before .before .before .before .args .day) (heldPosted (c .before .before .before .before .args .day) (standing (c .before .before .before .before .args .account .ledger)))
 after-posted c = posted-sound (c .before .before .before .before .args .day) (standing (c .before .before .before .before .args .account .ledger)) (passed c .day-most) (items-later (c .before .before .before .before .args .account .latest) (c .before .before .before .before .args .day) (c .before .before .before .before .args .account .ledger) (passed c .not-before) (ledger c)) (ledger c .held-most)
 
--- src/whole.rt:437:32
 is-stopped-requires : tie.Need-is-stopped-requires
 is-stopped-requires c κs = search needs
 
--- src/whole.rt:437:9
 start-refusal-requires : tie.Need-start-refusal-requires
 start-refusal-requires c κs = search needs
 
--- src/whole.rt:439:9
 decline-requires : tie.Need-decline-requires
 decline-requires c κs = search needs
 
--- src/whole.rt:439:9
 returns : tie.Need-returns
 returns c = c .decline .ensures ∙ sym (outcome-declined (c .before .before .before .before .before .args .account) (StoppedCancellation (c .before .before .before .before .before .args .day)) (c .before .before .before .before .before .pre) (c .before .before .start-refusal .result) (number-is (c .before .before)) (c .before .if1 .taken))
 
--- src/whole.rt:441:9
 close-requires : tie.Need-close-requires
 close-requires c κs = (ledger-bounds (c .before .before .before .before .args .account .latest) (c .before .before .before .before .args .account .ledger) (ledger c), (passed c .day-most, (omega arith, omega arith)))
 
--- src/whole.rt:448:28
 quiet-answer-requires : tie.Need-quiet-answer-requires
 quiet-answer-requires c κs = search needs
 
--- src/whole.rt:448:5
 finish-requires : tie.Need-finish-requires
 finish-requires c κs = (ap (λ (answer : Answer). answer .number) (c .quiet-answer .ensures), subst (λ (ledger : Ledger). ledger .count ≤ capacity → OpenBounds ledger) (sym (posted-is (c .before .before))) (sound-open (c .before .before .before .before .before .before .before .args .day) (heldPosted (c .before .before .before .before .before .before .before .args .day) (standing (c .before .before .before .before .before .before .before .args .account .ledger))) (after-posted (c .before .before .before))))
 
--- src/whole.rt:431:1
 returns-2 : tie.Need-returns-2
 unfolding work
 returns-2 c = concludes-with (c .before .before .before .before .before .before .before .before .args .account) (withLedger (c .before .before .before .before .before .before .before .before .args .account) (c .before .before .before .before .before .before .before .before .args .day) Cancelled (c .before .before .before .close .result)) (withLedger (c .before .before .before .before .before .before .before .before .args .account) (c .before .before .before .before .before .before .before .before .args .day) Cancelled (stored (heldPosted (c .before .before .before .before .before .before .before .before .args .day) (standing (c .before .before .before .before .before .before .before .before .args .account .ledger))))) (c .finish .result) (c .before .quiet-answer .result) (record { number = 0; estimated = 0; volumes = volumesOf []; net = pos 0; interest = c .before .before .before .before .before .before .before .before .args .account .ledger .held; unpaid = 0; credit = 0 })

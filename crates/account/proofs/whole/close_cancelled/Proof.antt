@@ -1,7 +1,8 @@
 use mathlib.Core.Path.{_≡_, refl, sym, ap, subst, _∙_}
-use Prim.Native.Nat.{_+_, _≤_}
 use mathlib.Core.List.{[]}
+use Prim.Native.Nat.{_+_, _≤_}
 use native.Mathlib.Omega.{arith}
+use borrow.Author.Needs.{needs}
 use Rattle.meter.specs.Sharing.{volumesOf}
 use Rattle.ledger.specs.declared.Ledger.{Ledger}
 use Rattle.ledger.specs.Posting.{capacity, OpenBounds, stored, heldPosted}
@@ -10,20 +11,12 @@ use Rattle.account.specs.declared.Answer.{Answer}
 use Rattle.account.specs.declared.closing.Closing.{Closing}
 use Rattle.account.specs.Closing.{storedEstimates}
 use Rattle.account.specs.Calls.{madeFinal, closingNet, closedLedger, afterReading}
+use Rattle.account.specs.declared.Status.the-variants.{Cancelled}
 use Rattle.account.proofs.Sound.{Bounded, Sound, posted-sound, held-most}
 use Rattle.account.proofs.Ready.{ReadingReady, reading-ready, reading-closed, sound-open, sound-ready, bounded-count}
 use Rattle.account.proofs.Concluding.{concludes-with}
-use Rattle.account.specs.declared.Status.the-variants.{Cancelled}
-use borrow.Author.Needs.{needs}
 use Rattle.account.proofs.whole.close_cancelled.Statement.{statement}
 use Rattle.account.proofs.whole.close_cancelled.Tie as tie
-use Rattle.account.proofs.whole.close_cancelled.Reads as reads
-use Rattle.account.proofs.whole.close_cancelled.Lts as lts
-use Rattle.account.proofs.closing.close_period.Reads as close-period-reads
-use Rattle.account.proofs.whole.after_reading.Reads as after-reading-reads
-use Rattle.account.proofs.whole.closing_answer.Reads as closing-answer-reads
-use Rattle.account.proofs.whole.finish.Reads as finish-reads
-use Rattle.ledger.proofs.Ledger.post_held.Reads as post-held-reads
 
 ready : (c : tie.Start) → ReadingReady (c .args .account) (c .args .day) (c .args .reading) (c .args .fuel)
 ready c = reading-ready (c .args .account) (c .args .day) (c .args .reading) (c .args .fuel) (c .pre .0) (c .pre .1)
@@ -50,32 +43,25 @@ answer-is c =
     c .closing-answer .ensures ∙
     ap (λ (r : Closing). record { number = 0; estimated = 0; volumes = r .volumes; net = r .net; interest = c .before .before .before .before .before .before .args .account .ledger .held + r .ledger .held; unpaid = 0; credit = 0 }) (c .before .before .before .before .before .close-period .ensures)
 
--- src/whole.rt:235:9
 close-period-requires : tie.Need-close-period-requires
 close-period-requires c κs = search needs
 
--- src/whole.rt:236:9
 post-held-requires : tie.Need-post-held-requires
 post-held-requires c κs = (ready (c .before) .day-most, rw (closed-is c) (bounded-count (c .before .args .day) (closedLedger (c .before .args .account) (c .before .args .day) (c .before .args .reading) (c .before .args .fuel)) (after-closed (c .before))))
 
--- src/whole.rt:237:9
 after-reading-requires : tie.Need-after-reading-requires
 after-reading-requires c κs = search needs
 
--- src/whole.rt:238:20
 add-interest : tie.Need-add-interest
 add-interest c = omega (arith, ready (c .before .before .before .before .before) .ledger .held-most, ap (λ (l : Ledger). l .held) (closed-is (c .before .before .before .before)), held-most (c .before .before .before .before .before .args .day) (closedLedger (c .before .before .before .before .before .args .account) (c .before .before .before .before .before .args .day) (c .before .before .before .before .before .args .reading) (c .before .before .before .before .before .args .fuel)) (after-closed (c .before .before .before .before .before)))
 
--- src/whole.rt:239:28
 closing-answer-requires : tie.Need-closing-answer-requires
 closing-answer-requires c κs = search needs
 
--- src/whole.rt:239:5
 finish-requires : tie.Need-finish-requires
 finish-requires c κs = let same = ap (λ (a : Account). a .ledger) (after-is (c .before .before .before)) in
     (ap (λ (answer : Answer). answer .number) (answer-is c), subst (λ (ledger : Ledger). ledger .count ≤ capacity → OpenBounds ledger) (sym same) (sound-open (c .before .before .before .before .before .before .args .day) (heldPosted (c .before .before .before .before .before .before .args .day) (closedLedger (c .before .before .before .before .before .before .args .account) (c .before .before .before .before .before .before .args .day) (c .before .before .before .before .before .before .args .reading) (c .before .before .before .before .before .before .args .fuel))) (after-posted (c .before .before .before .before .before .before))))
 
--- src/whole.rt:230:1
 returns : tie.Need-returns
 returns c = concludes-with (c .before .before .before .before .before .before .before .args .account) (c .before .before .before .before .after-reading .result) (afterReading (c .before .before .before .before .before .before .before .args .account) (c .before .before .before .before .before .before .before .args .day) (c .before .before .before .before .before .before .before .args .reading) (c .before .before .before .before .before .before .before .args .fuel) Cancelled (stored (heldPosted (c .before .before .before .before .before .before .before .args .day) (closedLedger (c .before .before .before .before .before .before .before .args .account) (c .before .before .before .before .before .before .before .args .day) (c .before .before .before .before .before .before .before .args .reading) (c .before .before .before .before .before .before .before .args .fuel))))) (c .finish .result) (c .before .closing-answer .result) (record { number = 0; estimated = 0; volumes = volumesOf (madeFinal (c .before .before .before .before .before .before .before .args .account) (c .before .before .before .before .before .before .before .args .day) (c .before .before .before .before .before .before .before .args .reading) (c .before .before .before .before .before .before .before .args .fuel)); net = closingNet (c .before .before .before .before .before .before .before .args .account) (c .before .before .before .before .before .before .before .args .day) (c .before .before .before .before .before .before .before .args .reading) (c .before .before .before .before .before .before .before .args .fuel); interest = c .before .before .before .before .before .before .before .args .account .ledger .held + closedLedger (c .before .before .before .before .before .before .before .args .account) (c .before .before .before .before .before .before .before .args .day) (c .before .before .before .before .before .before .before .args .reading) (c .before .before .before .before .before .before .before .args .fuel) .held; unpaid = 0; credit = 0 }) (after-is (c .before .before .before .before)) (answer-is (c .before)) (c .finish .ensures) (madeFinal (c .before .before .before .before .before .before .before .args .account) (c .before .before .before .before .before .before .before .args .day) (c .before .before .before .before .before .before .before .args .reading) (c .before .before .before .before .before .before .before .args .fuel)) refl
 

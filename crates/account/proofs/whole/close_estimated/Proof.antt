@@ -6,6 +6,7 @@ use lib.IntN.{pos}
 use mir.Facts.{toZ-pos}
 use mir.Syntax.{w32}
 use mir.Val.{toZ}
+use borrow.Author.Needs.{needs}
 use Rattle.tariff.specs.Price.{priceOf, Billable}
 use Rattle.tariff.proofs.Bounds.{price-most}
 use Rattle.meter.specs.Sharing.{volumesOf}
@@ -18,18 +19,8 @@ use Rattle.account.specs.Calls.{standingEstimates, estimateOf, missed}
 use Rattle.account.proofs.Sound.{Bounded}
 use Rattle.account.proofs.Ready.{MissReady, miss-ready, charge-bounds, ledger-bounds, ledger-closed, sound-open}
 use Rattle.account.proofs.Concluding.{concludes-with}
-use borrow.Author.Needs.{needs}
 use Rattle.account.proofs.whole.close_estimated.Statement.{statement}
 use Rattle.account.proofs.whole.close_estimated.Tie as tie
-use Rattle.account.proofs.whole.close_estimated.Reads as reads
-use Rattle.account.proofs.whole.close_estimated.Lts as lts
-use Rattle.account.proofs.closing.days_of.Reads as days-of-reads
-use Rattle.account.proofs.refusals.start_of.Reads as start-of-reads
-use Rattle.account.proofs.whole.estimate_answer.Reads as estimate-answer-reads
-use Rattle.account.proofs.whole.finish.Reads as finish-reads
-use Rattle.account.proofs.whole.with_estimate.Reads as with-estimate-reads
-use Rattle.ledger.proofs.Ledger.close.Reads as close-reads
-use Rattle.tariff.proofs.price.Reads as price-reads
 
 ready : (c : tie.Start) → MissReady (c .args .account) (c .args .day) (c .args .fuel)
 ready c = miss-ready (c .args .account) (c .args .day) (c .args .fuel) (c .pre .0) (c .pre .1 .0)
@@ -67,47 +58,36 @@ after-closed c =
     ledger-closed (c .args .account .latest) (c .args .day) (c .args .account .ledger) (ready c .ledger) (ready c .day-most) (ready c .not-before) (pos (priceOf (daysOf (startOf (c .args .account .status)) (c .args .day)) (c .args .fuel) (c .args .volume)))
     (charge-bounds (priceOf (daysOf (startOf (c .args .account .status)) (c .args .day)) (c .args .fuel) (c .args .volume)) (price-most (daysOf (startOf (c .args .account .status)) (c .args .day)) (c .args .fuel) (c .args .volume) (billable c)))
 
--- src/whole.rt:334:24
 start-of-requires : tie.Need-start-of-requires
 start-of-requires c κs = search needs
 
--- src/whole.rt:334:9
 days-of-requires : tie.Need-days-of-requires
 days-of-requires c κs = (ready (c .before .before) .day-most, rw (c .start-of .ensures) (ready (c .before .before) .start-most))
 
--- src/whole.rt:335:25
 cast-price : tie.Need-cast-price
 cast-price c = search needs
 
--- src/whole.rt:335:9
 price-requires : tie.Need-price-requires
 price-requires c κs = subst (λ n. Billable n (c .before .before .before .args .fuel) (c .before .before .before .args .volume)) (sym (days-are c)) (billable (c .before .before .before))
 
--- src/whole.rt:343:9
 with-estimate-requires : tie.Need-with-estimate-requires
 with-estimate-requires c κs = ready (c .before .before .before .before) .room
 
--- src/whole.rt:344:36
 cast-close : tie.Need-cast-close
 cast-close c = record { sfits = omega (arith, charged-most (c .before)) }
 
--- src/whole.rt:344:9
 close-requires : tie.Need-close-requires
 close-requires c κs = (ledger-bounds (c .before .before .before .before .before .args .account .latest) (c .before .before .before .before .before .args .account .ledger) (ready (c .before .before .before .before .before) .ledger), (ready (c .before .before .before .before .before) .day-most, subst NetBounds (sym (net-is (c .before))) (charge-bounds (priceOf (daysOf (startOf (c .before .before .before .before .before .args .account .status)) (c .before .before .before .before .before .args .day)) (c .before .before .before .before .before .args .fuel) (c .before .before .before .before .before .args .volume)) (price-most (daysOf (startOf (c .before .before .before .before .before .args .account .status)) (c .before .before .before .before .before .args .day)) (c .before .before .before .before .before .args .fuel) (c .before .before .before .before .before .args .volume) (billable (c .before .before .before .before .before))))))
 
--- src/whole.rt:346:43
 add-t14 : tie.Need-add-t14
 add-t14 c = omega (arith, ready (c .before .before .before .before .before .before) .day-most)
 
--- src/whole.rt:356:9
 estimate-answer-requires : tie.Need-estimate-answer-requires
 estimate-answer-requires c κs = charged-most (c .before .before)
 
--- src/whole.rt:353:5
 finish-requires : tie.Need-finish-requires
 finish-requires c κs = (ap (λ (answer : Answer). answer .number) (c .estimate-answer .ensures), subst (λ (ledger : Ledger). ledger .count ≤ capacity → OpenBounds ledger) (sym (ledger-is (c .before))) (sound-open (c .before .before .before .before .before .before .before .args .day) (afterLedger (c .before .before .before .before .before .before .before)) (after-closed (c .before .before .before .before .before .before .before) .sound)))
 
--- src/whole.rt:326:1
 returns : tie.Need-returns
 unfolding afterLedger
 returns c = concludes-with (c .before .before .before .before .before .before .before .before .args .account) (record { status = Supplied (c .before .before .before .before .before .before .before .before .args .day + 1); latest = c .before .before .before .before .before .before .before .before .args .day; digits = c .before .before .before .before .before .before .before .before .args .account .digits; dial = c .before .before .before .before .before .before .before .before .args .account .dial; pool = c .before .before .before .before .before .before .before .before .args .account .pool; previous = c .before .before .before .before .before .before .before .before .args .volume; estimates = c .before .before .before .with-estimate .result; ledger = c .before .before .close .result }) (missed (c .before .before .before .before .before .before .before .before .args .account) (c .before .before .before .before .before .before .before .before .args .day) (c .before .before .before .before .before .before .before .before .args .fuel) (c .before .before .before .before .before .before .before .before .args .absent) (c .before .before .before .before .before .before .before .before .args .volume) .account) (c .finish .result) (c .before .estimate-answer .result) (record { number = 0; estimated = c .before .before .before .before .before .before .before .before .args .volume; volumes = volumesOf []; net = pos (priceOf (daysOf (startOf (c .before .before .before .before .before .before .before .before .args .account .status)) (c .before .before .before .before .before .before .before .before .args .day)) (c .before .before .before .before .before .before .before .before .args .fuel) (c .before .before .before .before .before .before .before .before .args .volume)); interest = c .before .before .before .before .before .before .before .before .args .account .ledger .held; unpaid = 0; credit = 0 })

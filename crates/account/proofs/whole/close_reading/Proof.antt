@@ -1,28 +1,20 @@
 use mathlib.Core.Path.{_≡_, refl, sym, ap, subst, _∙_}
-use Prim.Native.Nat.{_+_, _≤_}
 use mathlib.Core.List.{[]}
-use native.Mathlib.Omega.{arith}
+use Prim.Native.Nat.{_≤_}
+use borrow.Author.Needs.{needs}
 use Rattle.meter.specs.Sharing.{volumesOf}
 use Rattle.ledger.specs.declared.Ledger.{Ledger}
-use Rattle.ledger.specs.Posting.{capacity, OpenBounds, stored, heldPosted}
+use Rattle.ledger.specs.Posting.{capacity, OpenBounds, stored}
 use Rattle.account.specs.declared.Account.{Account}
 use Rattle.account.specs.declared.Answer.{Answer}
 use Rattle.account.specs.declared.closing.Closing.{Closing}
 use Rattle.account.specs.Closing.{storedEstimates}
 use Rattle.account.specs.Calls.{madeFinal, closingNet, closedLedger, afterReading}
-use Rattle.account.proofs.Sound.{Bounded, Sound, posted-sound, held-most}
-use Rattle.account.proofs.Ready.{ReadingReady, reading-ready, reading-closed, sound-open, sound-ready, bounded-count}
+use Rattle.account.proofs.Sound.{Bounded}
+use Rattle.account.proofs.Ready.{reading-ready, reading-closed, sound-open}
 use Rattle.account.proofs.Concluding.{concludes-with}
-use Rattle.account.specs.declared.Status.the-variants.{Cancelled}
-use borrow.Author.Needs.{needs}
 use Rattle.account.proofs.whole.close_reading.Statement.{statement}
 use Rattle.account.proofs.whole.close_reading.Tie as tie
-use Rattle.account.proofs.whole.close_reading.Reads as reads
-use Rattle.account.proofs.whole.close_reading.Lts as lts
-use Rattle.account.proofs.closing.close_period.Reads as close-period-reads
-use Rattle.account.proofs.whole.after_reading.Reads as after-reading-reads
-use Rattle.account.proofs.whole.closing_answer.Reads as closing-answer-reads
-use Rattle.account.proofs.whole.finish.Reads as finish-reads
 
 after-closed : (c : tie.Start) → Bounded (c .args .day) (closedLedger (c .args .account) (c .args .day) (c .args .reading) (c .args .fuel))
 after-closed c = reading-closed (c .args .account) (c .args .day) (c .args .reading) (c .args .fuel) (reading-ready (c .args .account) (c .args .day) (c .args .reading) (c .args .fuel) (c .pre .0) (c .pre .1))
@@ -37,24 +29,19 @@ answer-is c =
     c .closing-answer .ensures ∙
     ap (λ (r : Closing). record { number = 0; estimated = 0; volumes = r .volumes; net = r .net; interest = c .before .before .before .args .account .ledger .held; unpaid = 0; credit = 0 }) (c .before .before .close-period .ensures)
 
--- src/whole.rt:224:9
 close-period-requires : tie.Need-close-period-requires
 close-period-requires c κs = search needs
 
--- src/whole.rt:225:9
 after-reading-requires : tie.Need-after-reading-requires
 after-reading-requires c κs = search needs
 
--- src/whole.rt:226:28
 closing-answer-requires : tie.Need-closing-answer-requires
 closing-answer-requires c κs = search needs
 
--- src/whole.rt:226:5
 finish-requires : tie.Need-finish-requires
 finish-requires c κs = let same = ap (λ (a : Account). a .ledger) (after-is (c .before)) in
     (ap (λ (answer : Answer). answer .number) (answer-is c), subst (λ (ledger : Ledger). ledger .count ≤ capacity → OpenBounds ledger) (sym same) (sound-open (c .before .before .before .args .day) (closedLedger (c .before .before .before .args .account) (c .before .before .before .args .day) (c .before .before .before .args .reading) (c .before .before .before .args .fuel)) (after-closed (c .before .before .before) .sound)))
 
--- src/whole.rt:219:1
 returns : tie.Need-returns
 returns c = concludes-with (c .before .before .before .before .args .account) (c .before .before .after-reading .result) (afterReading (c .before .before .before .before .args .account) (c .before .before .before .before .args .day) (c .before .before .before .before .args .reading) (c .before .before .before .before .args .fuel) (c .before .before .before .before .args .status) (stored (closedLedger (c .before .before .before .before .args .account) (c .before .before .before .before .args .day) (c .before .before .before .before .args .reading) (c .before .before .before .before .args .fuel)))) (c .finish .result) (c .before .closing-answer .result) (record { number = 0; estimated = 0; volumes = volumesOf (madeFinal (c .before .before .before .before .args .account) (c .before .before .before .before .args .day) (c .before .before .before .before .args .reading) (c .before .before .before .before .args .fuel)); net = closingNet (c .before .before .before .before .args .account) (c .before .before .before .before .args .day) (c .before .before .before .before .args .reading) (c .before .before .before .before .args .fuel); interest = c .before .before .before .before .args .account .ledger .held; unpaid = 0; credit = 0 }) (after-is (c .before .before)) (answer-is (c .before)) (c .finish .ensures) (madeFinal (c .before .before .before .before .args .account) (c .before .before .before .before .args .day) (c .before .before .before .before .args .reading) (c .before .before .before .before .args .fuel)) refl
 

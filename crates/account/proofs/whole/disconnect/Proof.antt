@@ -1,16 +1,11 @@
 use mathlib.Core.Path.{_≡_, sym, _∙_}
+use borrow.Author.Needs.{needs}
 use Rattle.account.specs.Calls.{work}
 use Rattle.account.specs.Refusals.{firstRefusal}
 use Rattle.account.specs.declared.Call.the-variants.{Disconnection}
 use Rattle.account.proofs.Concluding.{outcome-declined, outcome-concluded}
-use borrow.Author.Needs.{needs}
 use Rattle.account.proofs.whole.disconnect.Statement.{statement}
 use Rattle.account.proofs.whole.disconnect.Tie as tie
-use Rattle.account.proofs.whole.disconnect.Reads as reads
-use Rattle.account.proofs.whole.disconnect.Lts as lts
-use Rattle.account.proofs.refusals.reading_refusal.Reads as reading-refusal-reads
-use Rattle.account.proofs.whole.close_reading.Reads as close-reading-reads
-use Rattle.account.proofs.whole.decline.Reads as decline-reads
 
 number-is : (c : tie.After-reading-refusal) → c .reading-refusal .result ≡ firstRefusal (c .before .args .account) (Disconnection (c .before .args .day) (c .before .args .reading) (c .before .args .fuel))
 unfolding firstRefusal
@@ -19,23 +14,18 @@ number-is c = c .reading-refusal .ensures
 passed-first : (c : tie.Else1) → firstRefusal (c .before .before .args .account) (Disconnection (c .before .before .args .day) (c .before .before .args .reading) (c .before .before .args .fuel)) ≡ 0
 passed-first c = sym (number-is (c .before)) ∙ c .if1 .left
 
--- src/whole.rt:261:9
 reading-refusal-requires : tie.Need-reading-refusal-requires
 reading-refusal-requires c κs = search needs
 
--- src/whole.rt:263:9
 decline-requires : tie.Need-decline-requires
 decline-requires c κs = search needs
 
--- src/whole.rt:263:9
 returns : tie.Need-returns
 returns c = c .decline .ensures ∙ sym (outcome-declined (c .before .before .before .args .account) (Disconnection (c .before .before .before .args .day) (c .before .before .before .args .reading) (c .before .before .before .args .fuel)) (c .before .before .before .pre) (c .before .before .reading-refusal .result) (number-is (c .before .before)) (c .before .if1 .taken))
 
--- src/whole.rt:265:5
 close-reading-requires : tie.Need-close-reading-requires
 close-reading-requires c κs = search needs
 
--- src/whole.rt:257:1
 returns-2 : tie.Need-returns-2
 unfolding work
 returns-2 c = c .close-reading .ensures ∙ sym (outcome-concluded (c .before .before .before .args .account) (Disconnection (c .before .before .before .args .day) (c .before .before .before .args .reading) (c .before .before .before .args .fuel)) (c .before .before .before .pre) (passed-first (c .before)))

@@ -1,12 +1,12 @@
-use Rattle.account.specs.declared.Account.{Account}
-use Rattle.account.specs.Calls.{quiet}
 use mathlib.Core.Path.{_≡_, refl, sym, ap, _∙_}
 use mathlib.Core.List.{[]}
+use Prim.Native.Nat.{ℕ, _+_}
 use native.Mathlib.Omega.{arith}
 use lib.IntN.{pos}
-use Prim.Native.Nat.{ℕ, _+_}
+use borrow.Author.Needs.{needs}
 use Rattle.meter.specs.Sharing.{volumesOf}
-use Rattle.account.specs.Calls.{work, exchanged}
+use Rattle.account.specs.declared.Account.{Account}
+use Rattle.account.specs.Calls.{quiet, work}
 use Rattle.account.specs.Outcomes.{concluded}
 use Rattle.account.specs.Refusals.{firstRefusal}
 use Rattle.account.specs.declared.Call.the-variants.{Exchange}
@@ -15,16 +15,8 @@ use Rattle.account.proofs.Ready.{whole-open}
 use Rattle.account.proofs.Facts.{MeterFacts, whole-facts, supplied-facts}
 use Rattle.account.proofs.Passed.{ExchangePassed, exchange-passed}
 use Rattle.account.proofs.Concluding.{concludes-with, outcome-declined, outcome-concluded}
-use borrow.Author.Needs.{needs}
 use Rattle.account.proofs.whole.exchange_meter.Statement.{statement}
 use Rattle.account.proofs.whole.exchange_meter.Tie as tie
-use Rattle.account.proofs.whole.exchange_meter.Reads as reads
-use Rattle.account.proofs.whole.exchange_meter.Lts as lts
-use Rattle.account.proofs.refusals.exchange_refusal.Reads as exchange-refusal-reads
-use Rattle.account.proofs.whole.decline.Reads as decline-reads
-use Rattle.account.proofs.whole.finish.Reads as finish-reads
-use Rattle.account.proofs.whole.quiet_answer.Reads as quiet-answer-reads
-use Rattle.meter.proofs.dial_advance.Reads as dial-advance-reads
 
 number-is : (c : tie.After-exchange-refusal) → c .exchange-refusal .result ≡ firstRefusal (c .before .args .account) (Exchange (c .before .args .day) (c .before .args .old) (c .before .args .new) (c .before .args .digits))
 unfolding firstRefusal
@@ -54,35 +46,27 @@ after c pool =
       ledger = c .before .before .before .before .before .before .args .account .ledger;
     }
 
--- src/whole.rt:175:9
 exchange-refusal-requires : tie.Need-exchange-refusal-requires
 exchange-refusal-requires c κs = search needs
 
--- src/whole.rt:177:9
 decline-requires : tie.Need-decline-requires
 decline-requires c κs = search needs
 
--- src/whole.rt:177:9
 returns : tie.Need-returns
 returns c = c .decline .ensures ∙ sym (outcome-declined (c .before .before .before .args .account) (Exchange (c .before .before .before .args .day) (c .before .before .before .args .old) (c .before .before .before .args .new) (c .before .before .before .args .digits)) (c .before .before .before .pre) (c .before .before .exchange-refusal .result) (number-is (c .before .before)) (c .before .if1 .taken))
 
--- src/whole.rt:179:21
 dial-advance-requires : tie.Need-dial-advance-requires
 dial-advance-requires c κs = record { digits-within = meter c .digits-within; old-within = meter c .dial-within; new-within = passed c .old-on-dial }
 
--- src/whole.rt:179:5
 add-account : tie.Need-add-account
 add-account c = omega (arith, c .before .dial-advance .ensures, passed (c .before .before) .pool-most)
 
--- src/whole.rt:183:29
 quiet-answer-requires : tie.Need-quiet-answer-requires
 quiet-answer-requires c κs = search needs
 
--- src/whole.rt:183:5
 finish-requires : tie.Need-finish-requires
 finish-requires c κs = (ap (λ (answer : Answer). answer .number) (c .quiet-answer .ensures), λ _. whole-open (c .before .before .before .before .before .args .account) (c .before .before .before .before .before .pre))
 
--- src/whole.rt:170:1
 returns-2 : tie.Need-returns-2
 unfolding work
 returns-2 c = concludes-with (c .before .before .before .before .before .before .args .account) (after c (c .before .before .before .before .before .before .args .account .pool + c .before .before .before .dial-advance .result)) (after c (c .before .before .before .before .before .before .args .account .pool + c .before .before .before .dial-advance .result)) (c .finish .result) (c .before .quiet-answer .result) (record { number = 0; estimated = 0; volumes = volumesOf []; net = pos 0; interest = 0; unpaid = 0; credit = 0 }) refl (c .before .quiet-answer .ensures) (c .finish .ensures) [] refl ∙

@@ -1,16 +1,11 @@
 use mathlib.Core.Path.{_≡_, sym, _∙_}
+use borrow.Author.Needs.{needs}
 use Rattle.account.specs.Calls.{work}
 use Rattle.account.specs.Refusals.{firstRefusal}
 use Rattle.account.specs.declared.Call.the-variants.{Payment}
 use Rattle.account.proofs.Concluding.{outcome-declined, outcome-concluded}
-use borrow.Author.Needs.{needs}
 use Rattle.account.proofs.whole.pay.Statement.{statement}
 use Rattle.account.proofs.whole.pay.Tie as tie
-use Rattle.account.proofs.whole.pay.Reads as reads
-use Rattle.account.proofs.whole.pay.Lts as lts
-use Rattle.account.proofs.refusals.payment_refusal.Reads as payment-refusal-reads
-use Rattle.account.proofs.whole.decline.Reads as decline-reads
-use Rattle.account.proofs.whole.receive.Reads as receive-reads
 
 number-is : (c : tie.After-payment-refusal) → c .payment-refusal .result ≡ firstRefusal (c .before .args .account) (Payment (c .before .args .day) (c .before .args .yen))
 unfolding firstRefusal
@@ -19,23 +14,18 @@ number-is c = c .payment-refusal .ensures
 passed-first : (c : tie.Else1) → firstRefusal (c .before .before .args .account) (Payment (c .before .before .args .day) (c .before .before .args .yen)) ≡ 0
 passed-first c = sym (number-is (c .before)) ∙ c .if1 .left
 
--- src/whole.rt:423:9
 payment-refusal-requires : tie.Need-payment-refusal-requires
 payment-refusal-requires c κs = search needs
 
--- src/whole.rt:425:9
 decline-requires : tie.Need-decline-requires
 decline-requires c κs = search needs
 
--- src/whole.rt:425:9
 returns : tie.Need-returns
 returns c = c .decline .ensures ∙ sym (outcome-declined (c .before .before .before .args .account) (Payment (c .before .before .before .args .day) (c .before .before .before .args .yen)) (c .before .before .before .pre) (c .before .before .payment-refusal .result) (number-is (c .before .before)) (c .before .if1 .taken))
 
--- src/whole.rt:427:5
 receive-requires : tie.Need-receive-requires
 receive-requires c κs = search needs
 
--- src/whole.rt:419:1
 returns-2 : tie.Need-returns-2
 unfolding work
 returns-2 c = c .receive .ensures ∙ sym (outcome-concluded (c .before .before .before .args .account) (Payment (c .before .before .before .args .day) (c .before .before .before .args .yen)) (c .before .before .before .pre) (passed-first (c .before)))

@@ -1,9 +1,9 @@
 use mathlib.Core.Path.{_≡_, refl, sym, ap, subst, _∙_}
-use mathlib.Core.Bool.{true, cond}
+use mathlib.Core.Bool.{true}
 use mathlib.Core.List.{[]}
 use Prim.Native.Nat.{_≤_}
-use native.Mathlib.Omega.{arith}
 use lib.IntN.{pos}
+use borrow.Author.Needs.{needs}
 use Rattle.meter.specs.Sharing.{volumesOf}
 use Rattle.ledger.specs.declared.Ledger.{Ledger}
 use Rattle.ledger.specs.Posting.{capacity, OpenBounds, stored, heldPosted}
@@ -12,16 +12,8 @@ use Rattle.account.specs.Calls.{isCancelled, paidLedger, withLedger}
 use Rattle.account.proofs.Sound.{Bounded, Sound, posted-sound, held-most}
 use Rattle.account.proofs.Ready.{PaymentReady, payment-ready, sound-ready, sound-open, bounded-count}
 use Rattle.account.proofs.Concluding.{concludes-with}
-use borrow.Author.Needs.{needs}
 use Rattle.account.proofs.whole.receive.Statement.{statement}
 use Rattle.account.proofs.whole.receive.Tie as tie
-use Rattle.account.proofs.whole.receive.Reads as reads
-use Rattle.account.proofs.whole.receive.Lts as lts
-use Rattle.account.proofs.refusals.is_cancelled.Reads as is-cancelled-reads
-use Rattle.account.proofs.whole.finish.Reads as finish-reads
-use Rattle.account.proofs.whole.quiet_answer.Reads as quiet-answer-reads
-use Rattle.ledger.proofs.Ledger.pay.Reads as pay-reads
-use Rattle.ledger.proofs.Ledger.post_held.Reads as post-held-reads
 
 ready : (c : tie.Start) → PaymentReady (c .args .account) (c .args .day) (c .args .yen)
 ready c = payment-ready (c .args .account) (c .args .day) (c .args .yen) (c .pre .0) (c .pre .1)
@@ -38,27 +30,21 @@ posted-is c = c .post-held .ensures (paidLedger (c .before .before .before .befo
 after-posted : (c : tie.Then1) → Sound (c .before .before .before .before .args .day) (heldPosted (c .before .before .before .before .args .day) (paidLedger (c .before .before .before .before .args .account) (c .before .before .before .before .args .day) (c .before .before .before .before .args .yen)))
 after-posted c = posted-sound (c .before .before .before .before .args .day) (paidLedger (c .before .before .before .before .args .account) (c .before .before .before .before .args .day) (c .before .before .before .before .args .yen)) (ready (c .before .before .before .before) .day-most) (paid-bounded c .sound .items) (held-most (c .before .before .before .before .args .day) (paidLedger (c .before .before .before .before .args .account) (c .before .before .before .before .args .day) (c .before .before .before .before .args .yen)) (paid-bounded c))
 
--- src/whole.rt:408:9
 pay-requires : tie.Need-pay-requires
 pay-requires c κs = (ready (c .before) .bounds, (ready (c .before) .day-most, ready (c .before) .yen-most))
 
--- src/whole.rt:410:8
 is-cancelled-requires : tie.Need-is-cancelled-requires
 is-cancelled-requires c κs = search needs
 
--- src/whole.rt:411:9
 post-held-requires : tie.Need-post-held-requires
 post-held-requires c κs = (ready (c .before .before .before .before) .day-most, rw (c .before .before .pay .ensures) (bounded-count (c .before .before .before .before .args .day) (paidLedger (c .before .before .before .before .args .account) (c .before .before .before .before .args .day) (c .before .before .before .before .args .yen)) (paid-bounded c)))
 
--- src/whole.rt:412:40
 quiet-answer-requires : tie.Need-quiet-answer-requires
 quiet-answer-requires c κs = search needs
 
--- src/whole.rt:412:9
 finish-requires : tie.Need-finish-requires
 finish-requires c κs = (ap (λ (answer : Answer). answer .number) (c .quiet-answer .ensures), subst (λ (ledger : Ledger). ledger .count ≤ capacity → OpenBounds ledger) (sym (posted-is (c .before))) (sound-open (c .before .before .before .before .before .before .args .day) (heldPosted (c .before .before .before .before .before .before .args .day) (paidLedger (c .before .before .before .before .before .before .args .account) (c .before .before .before .before .before .before .args .day) (c .before .before .before .before .before .before .args .yen))) (after-posted (c .before .before))))
 
--- src/whole.rt:412:9
 returns : tie.Need-returns
 returns c = rw (cancelled-is (c .before .before .before))
     (concludes-with (c .before .before .before .before .before .before .before .args .account) (withLedger (c .before .before .before .before .before .before .before .args .account) (c .before .before .before .before .before .before .before .args .day) (c .before .before .before .before .before .before .before .args .account .status) (c .before .before .post-held .result)) (withLedger (c .before .before .before .before .before .before .before .args .account) (c .before .before .before .before .before .before .before .args .day) (c .before .before .before .before .before .before .before .args .account .status) (stored (heldPosted (c .before .before .before .before .before .before .before .args .day) (paidLedger (c .before .before .before .before .before .before .before .args .account) (c .before .before .before .before .before .before .before .args .day) (c .before .before .before .before .before .before .before .args .yen))))) (c .finish .result) (c .before .quiet-answer .result) (record { number = 0; estimated = 0; volumes = volumesOf []; net = pos 0; interest = (paidLedger (c .before .before .before .before .before .before .before .args .account) (c .before .before .before .before .before .before .before .args .day) (c .before .before .before .before .before .before .before .args .yen)) .held; unpaid = 0; credit = 0 })
@@ -66,15 +52,12 @@ returns c = rw (cancelled-is (c .before .before .before))
     (c .before .quiet-answer .ensures ∙ ap (λ (l : Ledger). record { number = 0; estimated = 0; volumes = volumesOf []; net = pos 0; interest = l .held; unpaid = 0; credit = 0 }) (c .before .before .before .before .before .pay .ensures))
     (c .finish .ensures) [] refl)
 
--- src/whole.rt:415:29
 quiet-answer-requires-2 : tie.Need-quiet-answer-requires-2
 quiet-answer-requires-2 c κs = search needs
 
--- src/whole.rt:415:5
 finish-requires-2 : tie.Need-finish-requires-2
 finish-requires-2 c κs = (ap (λ (answer : Answer). answer .number) (c .quiet-answer2 .ensures), subst (λ (ledger : Ledger). ledger .count ≤ capacity → OpenBounds ledger) (sym (c .before .before .before .pay .ensures)) (sound-open (c .before .before .before .before .before .args .day) (paidLedger (c .before .before .before .before .before .args .account) (c .before .before .before .before .before .args .day) (c .before .before .before .before .before .args .yen)) (ready (c .before .before .before .before .before) .paid-sound)))
 
--- src/whole.rt:400:1
 returns-2 : tie.Need-returns-2
 returns-2 c = rw (sym (c .before .before .before .is-cancelled .ensures) ∙ c .before .before .if1 .left)
     (concludes-with (c .before .before .before .before .before .before .args .account) (withLedger (c .before .before .before .before .before .before .args .account) (c .before .before .before .before .before .before .args .day) (c .before .before .before .before .before .before .args .account .status) (c .before .before .before .before .pay .result)) (withLedger (c .before .before .before .before .before .before .args .account) (c .before .before .before .before .before .before .args .day) (c .before .before .before .before .before .before .args .account .status) (stored (paidLedger (c .before .before .before .before .before .before .args .account) (c .before .before .before .before .before .before .args .day) (c .before .before .before .before .before .before .args .yen)))) (c .finish2 .result) (c .before .quiet-answer2 .result) (record { number = 0; estimated = 0; volumes = volumesOf []; net = pos 0; interest = 0; unpaid = 0; credit = 0 })

@@ -1,5 +1,5 @@
 use mathlib.Core.Path.{_≡_, refl}
-use mathlib.Core.List.{[], _∷_, _++_}
+use mathlib.Core.List.{[], _∷_}
 use Prim.Native.Nat.{_-_, _≤_, _<_}
 use native.Mathlib.Omega.{arith}
 use native.Mathlib.Numerals.{add-one}
@@ -11,8 +11,6 @@ use Rattle.lists.proofs.Pad.{length-of-mapped, pad-next, pad-store}
 use Rattle.meter.specs.Sharing.{blank}
 use Rattle.account.proofs.whole.with_estimate.Statement.{statement}
 use Rattle.account.proofs.whole.with_estimate.Tie as tie
-use Rattle.account.proofs.whole.with_estimate.Reads as reads
-use Rattle.account.proofs.whole.with_estimate.Lts as lts
 
 abbrev Inv-loop : tie.InvT-loop
 Inv-loop estimate estimates count periods₀ i₀ periods i = (i ≤ count) × (periods ≡ pad 6 blank (take i (estimates .periods))) × (count < 6)
@@ -20,52 +18,40 @@ Inv-loop estimate estimates count periods₀ i₀ periods i = (i ≤ count) × (
 abbrev μ-loop : tie.MeasureT-loop
 μ-loop estimate estimates count periods₀ i₀ periods i = count - i
 
--- src/whole.rt:314:5
 loop-holds : tie.Need-loop-holds Inv-loop μ-loop
 loop-holds c = (omega arith, refl, c .pre)
 
--- src/whole.rt:315:22
 mul-periods : tie.Need-mul-periods Inv-loop μ-loop
 mul-periods c = search needs
 
--- src/whole.rt:315:22
 element-copy-out-periods : tie.Need-element-copy-out-periods Inv-loop μ-loop
 element-copy-out-periods c = search needs
 
--- src/whole.rt:315:9
 mul-periods-2 : tie.Need-mul-periods-2 Inv-loop μ-loop
 mul-periods-2 c = search needs
 
--- src/whole.rt:315:9
 array-set-from-periods : tie.Need-array-set-from-periods Inv-loop μ-loop
 array-set-from-periods c = search needs
 
--- src/whole.rt:316:9
 add-i : tie.Need-add-i Inv-loop μ-loop
 add-i c = omega arith
 
--- src/whole.rt:314:5
 loop-less : tie.Need-loop-less Inv-loop μ-loop
 loop-less c = omega arith
 
--- src/whole.rt:314:5
 loop-again : tie.Need-loop-again Inv-loop μ-loop
 loop-again c = let long : length (c .before .before .before .args .t1 .periods) ≡ 6 = search (length-of-mapped, needs) in
     (omega arith, rw (c .before .before .loop .inv .1, add-one (c .before .before .loop .i)) (pad-next blank 6 (c .before .before .before .args .t1 .periods) (c .before .before .loop .i) blank (omega arith) (omega (arith, c .before .before .loop .inv .2))), c .before .before .loop .inv .2)
 
--- src/whole.rt:318:5
 mul-periods-3 : tie.Need-mul-periods-3 Inv-loop μ-loop
 mul-periods-3 c = search needs
 
--- src/whole.rt:318:5
 array-set-from-periods-2 : tie.Need-array-set-from-periods-2 Inv-loop μ-loop
 array-set-from-periods-2 c = omega (arith, c .before .loop .inv .2)
 
--- src/whole.rt:320:16
 add-t17 : tie.Need-add-t17 Inv-loop μ-loop
 add-t17 c = omega arith
 
--- src/whole.rt:307:1
 returns : tie.Need-returns Inv-loop μ-loop
 returns c = let long : length (c .before .before .args .t1 .periods) ≡ 6 = search (length-of-mapped, needs) in
     let done : c .before .loop .i ≡ c .before .before .args .t1 .count = omega arith in
