@@ -1,7 +1,7 @@
 -- Demand 3: both sums, wholeness, and declined calls, after every list of calls from a new account. Assumes nothing.
-use mathlib.Core.Path.{_≡_, refl, ap, subst}
+use mathlib.Core.Path.{_≡_, refl, sym, ap, subst, _∙_}
 use mathlib.Core.Bool.{Bool, true, false, false≢true}
-use mathlib.Core.List.{List, [], _∷_}
+use mathlib.Core.List.{List, [], _∷_, map}
 use Prim.Native.Nat.{_+_}
 use native.Mathlib.Nat.{zero-add}
 use native.Mathlib.Omega.{arith}
@@ -12,8 +12,9 @@ use Rattle.lists.proofs.Pad.{take-pad}
 use Rattle.ledger.specs.Settling.{unpaidOf}
 use Rattle.account.specs.declared.Account.{Account}
 use Rattle.account.specs.declared.Call.{Call}
+use Rattle.account.specs.declared.Outcome.{Outcome}
 use Rattle.account.specs.declared.Call.the-variants.{Opening, Reading, Missed, Absent, Exchange, Disconnection, Reconnection, Cancellation, Payment, StoppedCancellation}
-use Rattle.account.specs.Calls.{Work, work}
+use Rattle.account.specs.Calls.{newAccount, Work, work}
 use Rattle.account.specs.Refusals.{isNew, isStopped, firstRefusal, refusal}
 use Rattle.account.specs.Outcomes.{accepted, declined, outcome}
 use Rattle.account.specs.Whole.{asMade, whole}
@@ -21,7 +22,7 @@ use Rattle.account.proofs.Facts.{facts-whole}
 use Rattle.account.proofs.Passed
 use Rattle.account.proofs.Passed.{Accepted, begun, reading-passed, miss-passed, dial-passed, exchange-passed, payment-passed}
 use Rattle.audit.specs.Book.{Book, byMiss, byAbsence, newPeriod, prices, acceptMiss, accept, enter}
-use Rattle.audit.specs.Claim.{Run, start, step, run, finalVolume, unpaidOn, Reconciled}
+use Rattle.audit.specs.Claim.{Run, start, step, run, finalVolume, unpaidOn, Reconciled, Done, Ran, seen}
 use Rattle.audit.proofs.Balance.{standing-is, yen-sum}
 use Rattle.audit.proofs.Matching.{Matched, supply, stop}
 use Rattle.audit.proofs.Readings.{reading-matched, disconnection-matched, cancellation-matched, reading-advanced}
@@ -142,3 +143,15 @@ reconciled calls =
       is-whole = unfold whole in (facts-whole (r .account .status) (r .account) (h .matched .facts));
       declined = declined-leaves r;
     }
+
+-- What runs is the run of its calls.
+seen-is : (r : Run) (done : List Done) → Ran (r .account) done → seen r done ≡ run r (map (λ d. d .call) done)
+unfolding run seen
+seen-is r [] w = refl
+seen-is r (d ∷ later) w =
+    let next : Outcome → Run = λ o. record { account = o .account; book = enter (r .book) (d .call) (o .answer .number); answers = o .answer ∷ r .answers } in
+    seen-is (next (d .handed-back)) later (w .1) ∙ ap (λ o. run (next o) (map (λ x. x .call) later)) (w .0)
+
+-- Demand 3 of the code: both sums hold of what the methods handed back.
+pub as-run : (done : List Done) → Ran newAccount done → Reconciled (seen start done)
+as-run done w = subst Reconciled (sym (seen-is start done w)) (reconciled (map (λ d. d .call) done))

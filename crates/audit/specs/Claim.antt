@@ -10,6 +10,7 @@ use Rattle.ledger.specs.Posting.{standing}
 use Rattle.account.specs.declared.Account.{Account}
 use Rattle.account.specs.declared.Answer.{Answer}
 use Rattle.account.specs.declared.Call.{Call}
+use Rattle.account.specs.declared.Outcome.{Outcome}
 use Rattle.account.specs.Calls.{newAccount}
 use Rattle.account.specs.Outcomes.{outcome}
 use Rattle.account.specs.Whole.{whole}
@@ -51,3 +52,25 @@ pub record Reconciled (r : Run) : Type 0 where
   pub is-whole : whole (r .account) ≡ true
   -- a declined call leaves account and book as they are
   pub declined : (call : Call) → (outcome (r .account) call .answer .number ≡ 0 → ⊥) → (step r call .account ≡ r .account) × (step r call .book ≡ r .book)
+
+-- What ran: a call, and the account and answer that its method handed back.
+pub record Done : Type 0 where
+  pub call : Call
+  pub handed-back : Outcome
+
+-- Calls that ran one after another on the account that the one before handed back. The contract of each method, and of `Account::apply`, is the equation.
+abbrev pub Ran : Account → List Done → Type 0
+Ran a [] = Unit {0}
+Ran a (done ∷ later) = (done .handed-back ≡ outcome a (done .call)) × Ran (done .handed-back .account) later
+
+-- The account, the book and the answers of what ran.
+unfoldable pub seen : Run → List Done → Run
+seen r [] = r
+seen r (done ∷ later) =
+    seen
+    (record {
+      account = done .handed-back .account;
+      book = enter (r .book) (done .call) (done .handed-back .answer .number);
+      answers = done .handed-back .answer ∷ r .answers;
+    })
+    later
