@@ -190,11 +190,11 @@ fn after_reading(
     account: Account,
     day: u16,
     reading: u32,
-    volume: u32,
+    previous: u32,
     status: Status,
     ledger: Ledger,
 ) -> Account
-    ensures { λ r. ⌜ r ≡ record { status = status; latest = day; digits = account .digits; dial = reading; pool = 0; previous = volume; estimates = storedEstimates []; ledger = ledger } ⌝ }
+    ensures { λ r. ⌜ r ≡ record { status = status; latest = day; digits = account .digits; dial = reading; pool = 0; previous = previous; estimates = storedEstimates []; ledger = ledger } ⌝ }
 {
     Account {
         status: status,
@@ -202,7 +202,7 @@ fn after_reading(
         digits: account.digits,
         dial: reading,
         pool: 0,
-        previous: volume,
+        previous: previous,
         estimates: no_estimates(),
         ledger: ledger,
     }
