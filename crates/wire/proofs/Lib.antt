@@ -1,0 +1,3 @@
+-- Laws of lines.
+pub mod Digits
+pub mod Frames

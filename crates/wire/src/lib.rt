@@ -1,0 +1,216 @@
+// Lines of the programs: a line to a call, an answer to its frame, an open item to its notice.
+ghost use mathlib.Core.Path.{_≡_};
+ghost use mathlib.Core.Bool.{true};
+ghost use Prim.Native.Nat.{_+_, _*_, _^_, _≤_, _<_};
+ghost use lib.ListN.{length, take, drop};
+ghost use Rattle.lists.specs.Every.{every};
+ghost use Rattle.wire.specs.Digits.{isDigit, numberOf, digitOr};
+ghost use Rattle.wire.specs.Frames.{fuelAt, frameOf, parsed};
+use account::Call;
+use tariff::Fuel;
+
+// What a line is.
+pub enum Parsed {
+    Frame(Call),
+    NotAFrame,
+}
+
+// The value of a character that is a hexadecimal digit, and 255 for any other.
+fn digit_or(character: u8) -> u8
+    ensures { λ r. ⌜ r ≡ digitOr character ⌝ }
+{
+    if character < 48 {
+        return 255;
+    }
+    if character <= 57 {
+        return character - 48;
+    }
+    if character < 97 {
+        return 255;
+    }
+    if character <= 102 {
+        return character - 87;
+    }
+    255
+}
+
+fn all_digits(line: &[u8]) -> bool
+    ensures { λ r. ⌜ r ≡ every isDigit (now (line .entry)) ⌝ }
+{
+    let mut i: usize = 0;
+    while i < line.len() {
+        if digit_or(line[i]) > 15 {
+            return false;
+        }
+        i += 1;
+    }
+    true
+}
+
+// The number that so many digits show, from a place on.
+fn number(line: &[u8], from: usize, width: usize) -> u32
+    requires { ⌜ from + width ≤ length (now line) ⌝ }
+    requires { ⌜ width ≤ 8 ⌝ }
+    requires { ⌜ every isDigit (now line) ≡ true ⌝ }
+    ensures { λ r. ⌜ r ≡ numberOf (take width (drop from (now (line .entry)))) ⌝ }
+    ensures { λ r. ⌜ r < 16 ^ width ⌝ }
+{
+    let mut n: u32 = 0;
+    let mut i: usize = 0;
+    while i < width {
+        n = n * 16 + digit_or(line[from + i]) as u32;
+        i += 1;
+    }
+    n
+}
+
+// A line to the call that it is.
+pub fn decode(line: &[u8]) -> Parsed
+    ensures { λ r. ⌜ r ≡ parsed (now (line .entry)) ⌝ }
+{
+    if line.len() > 30 {
+        return Parsed::NotAFrame;
+    }
+    if !all_digits(line) {
+        return Parsed::NotAFrame;
+    }
+    match line.len() {
+        30 => closing_frame(line),
+        22 => estimate_frame(line),
+        16 => dial_frame(line),
+        24 => exchange_frame(line),
+        14 => payment_frame(line),
+        6 => stopped_frame(line),
+        _ => Parsed::NotAFrame,
+    }
+}
+
+// The LNG price and the propane price.
+fn fuel_at(line: &[u8], from: usize) -> Fuel
+    requires { ⌜ from + 16 ≤ length (now line) ⌝ }
+    requires { ⌜ every isDigit (now line) ≡ true ⌝ }
+    ensures { λ r. ⌜ r ≡ record { lng = numberOf (take 8 (drop from (now (line .entry)))); propane = numberOf (take 8 (drop (from + 8) (now (line .entry)))) } ⌝ }
+{
+    Fuel {
+        lng: number(line, from, 8),
+        propane: number(line, from + 8, 8),
+    }
+}
+
+// 02, 06 and 08
+fn closing_frame(line: &[u8]) -> Parsed
+    requires { ⌜ length (now line) ≡ 30 ⌝ }
+    requires { ⌜ every isDigit (now line) ≡ true ⌝ }
+    ensures { λ r. ⌜ r ≡ frameOf (now (line .entry)) ⌝ }
+{
+    let kind = number(line, 0, 2);
+    let day = number(line, 2, 4) as u16;
+    let reading = number(line, 6, 8);
+    let fuel = fuel_at(line, 14);
+    if kind == 2 {
+        return Parsed::Frame(Call::Reading { day, reading, fuel });
+    }
+    if kind == 6 {
+        return Parsed::Frame(Call::Disconnection { day, reading, fuel });
+    }
+    if kind == 8 {
+        return Parsed::Frame(Call::Cancellation { day, reading, fuel });
+    }
+    Parsed::NotAFrame
+}
+
+// 03 and 04
+fn estimate_frame(line: &[u8]) -> Parsed
+    requires { ⌜ length (now line) ≡ 22 ⌝ }
+    requires { ⌜ every isDigit (now line) ≡ true ⌝ }
+    ensures { λ r. ⌜ r ≡ frameOf (now (line .entry)) ⌝ }
+{
+    let kind = number(line, 0, 2);
+    let day = number(line, 2, 4) as u16;
+    let fuel = fuel_at(line, 6);
+    if kind == 3 {
+        return Parsed::Frame(Call::Missed { day, fuel });
+    }
+    if kind == 4 {
+        return Parsed::Frame(Call::Absent { day, fuel });
+    }
+    Parsed::NotAFrame
+}
+
+// 01 and 07
+fn dial_frame(line: &[u8]) -> Parsed
+    requires { ⌜ length (now line) ≡ 16 ⌝ }
+    requires { ⌜ every isDigit (now line) ≡ true ⌝ }
+    ensures { λ r. ⌜ r ≡ frameOf (now (line .entry)) ⌝ }
+{
+    let kind = number(line, 0, 2);
+    let day = number(line, 2, 4) as u16;
+    let reading = number(line, 6, 8);
+    let digits = number(line, 14, 2) as u8;
+    if kind == 1 {
+        return Parsed::Frame(Call::Opening {
+            day,
+            reading,
+            digits,
+        });
+    }
+    if kind == 7 {
+        return Parsed::Frame(Call::Reconnection {
+            day,
+            reading,
+            digits,
+        });
+    }
+    Parsed::NotAFrame
+}
+
+// 05
+fn exchange_frame(line: &[u8]) -> Parsed
+    requires { ⌜ length (now line) ≡ 24 ⌝ }
+    requires { ⌜ every isDigit (now line) ≡ true ⌝ }
+    ensures { λ r. ⌜ r ≡ frameOf (now (line .entry)) ⌝ }
+{
+    let kind = number(line, 0, 2);
+    let day = number(line, 2, 4) as u16;
+    let old = number(line, 6, 8);
+    let new = number(line, 14, 8);
+    let digits = number(line, 22, 2) as u8;
+    if kind == 5 {
+        return Parsed::Frame(Call::Exchange {
+            day,
+            old,
+            new,
+            digits,
+        });
+    }
+    Parsed::NotAFrame
+}
+
+// 09
+fn payment_frame(line: &[u8]) -> Parsed
+    requires { ⌜ length (now line) ≡ 14 ⌝ }
+    requires { ⌜ every isDigit (now line) ≡ true ⌝ }
+    ensures { λ r. ⌜ r ≡ frameOf (now (line .entry)) ⌝ }
+{
+    let kind = number(line, 0, 2);
+    let day = number(line, 2, 4) as u16;
+    let yen = number(line, 6, 8);
+    if kind == 9 {
+        return Parsed::Frame(Call::Payment { day, yen });
+    }
+    Parsed::NotAFrame
+}
+
+// 0a
+fn stopped_frame(line: &[u8]) -> Parsed
+    requires { ⌜ length (now line) ≡ 6 ⌝ }
+    requires { ⌜ every isDigit (now line) ≡ true ⌝ }
+    ensures { λ r. ⌜ r ≡ frameOf (now (line .entry)) ⌝ }
+{
+    let kind = number(line, 0, 2);
+    let day = number(line, 2, 4) as u16;
+    if kind == 10 {
+        return Parsed::Frame(Call::StoppedCancellation { day });
+    }
+    Parsed::NotAFrame
+}
