@@ -1,3 +1,5 @@
 -- Laws of lines.
 pub mod Digits
 pub mod Frames
+pub mod Answers
+pub mod Writing

@@ -3,7 +3,7 @@ use mathlib.Core.Bool.{Bool, cond, _&&_, _||_}
 use mathlib.Core.List.{List, [], _∷_, _++_}
 use Prim.Native.Nat.{ℕ, zero, suc, _+_, _-_, _*_, _/_, _%_}
 use lib.Dec.{leb, ltb}
-use lib.ListN.{length, take, drop}
+use lib.Seq.{sets}
 
 -- Lower-case hexadecimal: the characters 0 to 9 and a to f.
 unfoldable pub isDigit : ℕ → Bool
@@ -36,6 +36,6 @@ digits base (suc k) n = digits base k (n / base) ++ (glyph (n % base) ∷ [])
 abbrev pub bytes : ℕ → ℕ → List ℕ
 bytes width n = digits 16 (2 * width) n
 
--- What is written in a text from a place on.
+-- A text in which characters are written one after another from a place on.
 abbrev pub written : List ℕ → ℕ → List ℕ → List ℕ
-written text at xs = take at text ++ xs ++ drop (at + length xs) text
+written text at xs = sets text at xs

@@ -4,7 +4,8 @@ ghost use mathlib.Core.Bool.{true};
 ghost use Prim.Native.Nat.{_+_, _*_, _^_, _≤_, _<_};
 ghost use lib.ListN.{length, take, drop};
 ghost use Rattle.lists.specs.Every.{every};
-ghost use Rattle.wire.specs.Digits.{isDigit, numberOf, digitOr};
+ghost use Rattle.wire.specs.Digits.{isDigit, numberOf, digitOr, glyph, digits, written};
+ghost use Rattle.wire.specs.Answers.{twosComplement};
 ghost use Rattle.wire.specs.Frames.{fuelAt, frameOf, parsed};
 use account::Call;
 use tariff::Fuel;
@@ -213,4 +214,38 @@ fn stopped_frame(line: &[u8]) -> Parsed
         return Parsed::Frame(Call::StoppedCancellation { day });
     }
     Parsed::NotAFrame
+}
+
+// The character of a digit.
+fn glyph_of(digit: u8) -> u8
+    requires { ⌜ digit ≤ 15 ⌝ }
+    ensures { λ r. ⌜ r ≡ glyph digit ⌝ }
+{
+    if digit < 10 { 48 + digit } else { 87 + digit }
+}
+
+// The last digits of a number in a base, from a place on.
+fn put_digits(out: &mut [u8], at: usize, base: u64, width: usize, value: u64)
+    requires { ⌜ at + width ≤ length (now out) ⌝ }
+    requires { ⌜ 1 ≤ base ⌝ }
+    requires { ⌜ base ≤ 16 ⌝ }
+    ensures { λ _. ⌜ now (out .exit) ≡ written (now (out .entry)) at (digits base width value) ⌝ }
+{
+    let mut rest = value;
+    let mut i = width;
+    while i > 0 {
+        i -= 1;
+        out[at + i] = glyph_of((rest % base) as u8);
+        rest = rest / base;
+    }
+}
+
+// Two's complement in 4 bytes.
+fn twos_complement(net: i32) -> u32
+    ensures { λ r. ⌜ r ≡ twosComplement net ⌝ }
+{
+    if net < 0 {
+        return !((!net) as u32);
+    }
+    net as u32
 }
