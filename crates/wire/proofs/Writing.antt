@@ -1,19 +1,26 @@
 -- Laws of writing. Assumes nothing.
 use mathlib.Core.Path.{_≡_, refl, sym, ap, _∙_}
-use mathlib.Core.List.{List, [], _∷_, _++_}
+use mathlib.Core.List.{List, [], _∷_, _++_, append-assoc, append-nil}
 use Prim.Native.Nat.{ℕ, zero, suc, _+_, _-_, _*_, _/_, _%_, _≤_, _<_}
 use native.Mathlib.Nat.{add-zero, add-suc, suc-add, not-suc-le-zero}
 use native.Mathlib.Omega.{arith}
 use native.Mathlib.Numerals.{add-one}
-use lib.ListN.{length, set, length-append, length-set}
-use lib.Seq.{sets, length-sets, set-comm}
+use lib.ListN.{length, getD, set, take, length-append}
+use lib.Seq.{set-comm, take-suc, take-all, length-take-le}
 use Rattle.wire.specs.Digits.{glyph, digits, bytes, written}
-use Rattle.wire.specs.Answers.{volumesBytes}
+use Rattle.calendar.specs.declared.FoundDate.{FoundDate}
+use Rattle.account.specs.declared.Answer.{Answer}
+use Rattle.wire.specs.Answers.{twosComplement, volumesBytes, answerHead, answerAmounts}
+use Rattle.wire.specs.Notices.{dateDigits}
 
 -- One text behind another is written behind it.
 pub written-behind : (text : List ℕ) (at : ℕ) (xs ys : List ℕ) → written text at (xs ++ ys) ≡ written (written text at xs) (at + length xs) ys
 written-behind text at [] ys = ap (λ n. written text n ys) (sym (add-zero at))
 written-behind text at (x ∷ xs) ys = written-behind (set text at x) (suc at) xs ys ∙ ap (λ n. written (written (set text at x) (suc at) xs) n ys) (suc-add at (length xs) ∙ sym (add-suc at (length xs)))
+
+-- What is written behind a text that stands.
+pub written-on : (text : List ℕ) (at : ℕ) (xs ys : List ℕ) (n : ℕ) {one two : List ℕ} → length xs ≡ n → one ≡ written text at xs → two ≡ written one (at + n) ys → two ≡ written text at (xs ++ ys)
+written-on text at xs ys n l e f = f ∙ ap (λ t. written t (at + n) ys) e ∙ ap (λ m. written (written text at xs) (at + m) ys) (sym l) ∙ sym (written-behind text at xs ys)
 
 -- Writing leaves what is behind it.
 set-written : (text : List ℕ) (at : ℕ) (xs : List ℕ) (j y : ℕ) → at + length xs ≤ j → set (written text at xs) j y ≡ written (set text j y) at xs
@@ -26,11 +33,13 @@ pub written-last : (text : List ℕ) (at : ℕ) (xs : List ℕ) (y : ℕ) → wr
 written-last text at xs y = written-behind text at xs (y ∷ []) ∙ set-written text at xs (at + length xs) y (omega arith)
 
 pub length-digits : (base k n : ℕ) → length (digits base k n) ≡ k
+unfolding digits
 length-digits base zero n = refl
 length-digits base (suc k) n = length-append (digits base k (n / base)) (glyph (n % base) ∷ []) ∙ ap (λ m. m + 1) (length-digits base k (n / base)) ∙ add-one k
 
 -- One digit more, from the last on.
 pub written-digit : (text : List ℕ) (at base k n : ℕ) → written text at (digits base (suc k) n) ≡ written (set text (at + k) (glyph (n % base))) at (digits base k (n / base))
+unfolding digits
 written-digit text at base k n = written-last text at (digits base k (n / base)) (glyph (n % base)) ∙ ap (λ m. written (set text (at + m) (glyph (n % base))) at (digits base k (n / base))) (length-digits base k (n / base))
 
 pub written-next : (text : List ℕ) (at base i n : ℕ) → 1 ≤ i → written text at (digits base i n) ≡ written (set text (at + (i - 1)) (glyph (n % base))) at (digits base (i - 1) (n / base))
@@ -39,3 +48,50 @@ written-next text at base (suc k) n h = rw (suc-sub-one k) (written-digit text a
   where
     suc-sub-one : (m : ℕ) → suc m - 1 ≡ m
     suc-sub-one m = omega arith
+
+-- Texts of so many bytes.
+pub length-behind : (xs ys : List ℕ) (m n : ℕ) → length xs ≡ m → length ys ≡ n → length (xs ++ ys) ≡ m + n
+length-behind xs ys m n e f = length-append xs ys ∙ rw (e, f) refl
+
+pub length-volumes : (volumes : List ℕ) → length (volumesBytes volumes) ≡ 8 * length volumes
+length-volumes [] = refl
+length-volumes (v ∷ vs) = length-behind (bytes 4 v) (volumesBytes vs) 8 (8 * length vs) (length-digits 16 8 v) (length-volumes vs) ∙ omega arith
+
+-- One volume more.
+pub volumes-more : (volumes : List ℕ) (v : ℕ) → volumesBytes (volumes ++ (v ∷ [])) ≡ volumesBytes volumes ++ bytes 4 v
+volumes-more [] v = append-nil (bytes 4 v)
+volumes-more (w ∷ ws) v = ap (λ r. bytes 4 w ++ r) (volumes-more ws v) ∙ sym (append-assoc (bytes 4 w) (volumesBytes ws) (bytes 4 v))
+
+pub volumes-next : (volumes : List ℕ) (i : ℕ) → i < length volumes → volumesBytes (take (i + 1) volumes) ≡ volumesBytes (take i volumes) ++ bytes 4 (getD volumes i 0)
+volumes-next volumes i h = rw (add-one i) (ap volumesBytes (take-suc volumes i 0 h) ∙ volumes-more (take i volumes) (getD volumes i 0))
+
+pub volumes-length : (volumes : List ℕ) (i : ℕ) → i ≤ length volumes → length (volumesBytes (take i volumes)) ≡ 8 * i
+volumes-length volumes i h = length-volumes (take i volumes) ∙ ap (λ n. 8 * n) (length-take-le i volumes h)
+
+-- More than there are is all there are.
+pub volumes-most : (volumes : List ℕ) (count : ℕ) → length volumes ≡ 7 → 7 ≤ count → take count volumes ≡ take 7 volumes
+volumes-most volumes count l h = take-all count volumes (omega arith) ∙ sym (take-all 7 volumes (omega arith))
+
+pub length-head : (answer : Answer) → length (answerHead answer) ≡ 12
+length-head answer =
+    length-behind (bytes 1 (answer .number) ++ bytes 4 (answer .estimated)) (bytes 1 (answer .volumes .count)) 10 2
+    (length-behind (bytes 1 (answer .number)) (bytes 4 (answer .estimated)) 2 8 (length-digits 16 2 (answer .number)) (length-digits 16 8 (answer .estimated)))
+    (length-digits 16 2 (answer .volumes .count))
+
+pub length-amounts : (answer : Answer) → length (answerAmounts answer) ≡ 48
+length-amounts answer =
+    let net = bytes 4 (twosComplement (answer .net)) in
+    let interest = bytes 8 (answer .interest) in
+    let unpaid = bytes 8 (answer .unpaid) in
+    length-behind (net ++ interest ++ unpaid) (bytes 4 (answer .credit)) 40 8
+    (length-behind (net ++ interest) unpaid 24 16
+    (length-behind net interest 8 16 (length-digits 16 8 (twosComplement (answer .net))) (length-digits 16 16 (answer .interest)))
+    (length-digits 16 16 (answer .unpaid)))
+    (length-digits 16 8 (answer .credit))
+
+pub length-date : (found : FoundDate) → length (dateDigits found) ≡ 8
+length-date (FoundDate.Date date) =
+    length-behind (digits 10 4 (date .year) ++ digits 10 2 (date .month)) (digits 10 2 (date .day)) 6 2
+    (length-behind (digits 10 4 (date .year)) (digits 10 2 (date .month)) 4 2 (length-digits 10 4 (date .year)) (length-digits 10 2 (date .month)))
+    (length-digits 10 2 (date .day))
+length-date FoundDate.None = length-digits 10 8 0

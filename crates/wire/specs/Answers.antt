@@ -19,17 +19,21 @@ abbrev pub volumesBytes : List ℕ → List ℕ
 volumesBytes [] = []
 volumesBytes (volume ∷ volumes) = bytes 4 volume ++ volumesBytes volumes
 
--- Number (1), estimated volume (4), n (1), the n volumes, net (4), interest posted (8), unpaid (8), credit (4).
+-- Number (1), estimated volume (4), n (1).
+abbrev pub answerHead : Answer → List ℕ
+answerHead answer = bytes 1 (answer .number) ++ bytes 4 (answer .estimated) ++ bytes 1 (answer .volumes .count)
+
+-- Net (4), interest posted (8), unpaid (8), credit (4).
+abbrev pub answerAmounts : Answer → List ℕ
+answerAmounts answer =
+    bytes 4 (twosComplement (answer .net)) ++ bytes 8 (answer .interest) ++ bytes 8 (answer .unpaid) ++ bytes 4 (answer .credit)
+
+-- The n volumes, oldest first.
+abbrev pub shown : Answer → List ℕ
+shown answer = volumesBytes (take (answer .volumes .count) (answer .volumes .volumes))
+
 abbrev pub answerFrame : Answer → List ℕ
-answerFrame answer =
-    bytes 1 (answer .number) ++
-    bytes 4 (answer .estimated) ++
-    bytes 1 (answer .volumes .count) ++
-    volumesBytes (take (answer .volumes .count) (answer .volumes .volumes)) ++
-    bytes 4 (twosComplement (answer .net)) ++
-    bytes 8 (answer .interest) ++
-    bytes 8 (answer .unpaid) ++
-    bytes 4 (answer .credit)
+answerFrame answer = answerHead answer ++ shown answer ++ answerAmounts answer
 
 unfoldable pub answerLine : Answer → List ℕ
 answerLine answer = answerFrame answer ++ (lineFeed ∷ [])

@@ -28,7 +28,7 @@ abbrev pub numberOf : List ℕ → ℕ
 numberOf cs = numberFrom 0 cs
 
 -- The last k digits of a number in a base, the most significant first.
-abbrev pub digits : ℕ → ℕ → ℕ → List ℕ
+unfoldable pub digits : ℕ → ℕ → ℕ → List ℕ
 digits base zero n = []
 digits base (suc k) n = digits base k (n / base) ++ (glyph (n % base) ∷ [])
 

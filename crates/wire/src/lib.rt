@@ -5,9 +5,17 @@ ghost use Prim.Native.Nat.{_+_, _*_, _^_, _≤_, _<_};
 ghost use lib.ListN.{length, take, drop};
 ghost use Rattle.lists.specs.Every.{every};
 ghost use Rattle.wire.specs.Digits.{isDigit, numberOf, digitOr, glyph, digits, written};
-ghost use Rattle.wire.specs.Answers.{twosComplement};
+ghost use Rattle.calendar.specs.Conversions.{toDate};
+ghost use Rattle.wire.specs.Answers.{twosComplement, volumesBytes, answerHead, answerAmounts, answerLine, longestAnswer};
+ghost use Rattle.wire.specs.Notices.{kindNumber, dateDigits, noticeLine, noticeLength};
 ghost use Rattle.wire.specs.Frames.{fuelAt, frameOf, parsed};
+use account::Answer;
 use account::Call;
+use calendar::Day;
+use calendar::FoundDate;
+use ledger::Item;
+use ledger::Kind;
+use meter::Volumes;
 use tariff::Fuel;
 
 // What a line is.
@@ -248,4 +256,101 @@ fn twos_complement(net: i32) -> u32
         return !((!net) as u32);
     }
     net as u32
+}
+
+// The volumes, 4 bytes each, and the place behind them.
+fn put_volumes(out: &mut [u8], at: usize, volumes: Volumes) -> usize
+    requires { ⌜ at + 56 ≤ length (now out) ⌝ }
+    ensures { λ _. ⌜ now (out .exit) ≡ written (now (out .entry)) at (volumesBytes (take (volumes .count) (volumes .volumes))) ⌝ }
+    ensures { λ r. ⌜ r ≡ at + length (volumesBytes (take (volumes .count) (volumes .volumes))) ⌝ }
+    ensures { λ r. ⌜ r ≤ at + 56 ⌝ }
+{
+    let entries = volumes.volumes;
+    let count = volumes.count;
+    let mut i: usize = 0;
+    while i < count {
+        if i == 7 {
+            return at + 56;
+        }
+        put_digits(out, at + 8 * i, 16, 8, entries[i] as u64);
+        i += 1;
+    }
+    at + 8 * i
+}
+
+// Number, estimated volume and n.
+fn put_head(out: &mut [u8], at: usize, answer: Answer)
+    requires { ⌜ at + 12 ≤ length (now out) ⌝ }
+    ensures { λ _. ⌜ now (out .exit) ≡ written (now (out .entry)) at (answerHead answer) ⌝ }
+{
+    put_digits(out, at, 16, 2, answer.number as u64);
+    put_digits(out, at + 2, 16, 8, answer.estimated as u64);
+    put_digits(out, at + 10, 16, 2, answer.volumes.count as u64);
+}
+
+// Net, interest posted, unpaid and credit.
+fn put_amounts(out: &mut [u8], at: usize, answer: Answer)
+    requires { ⌜ at + 48 ≤ length (now out) ⌝ }
+    ensures { λ _. ⌜ now (out .exit) ≡ written (now (out .entry)) at (answerAmounts answer) ⌝ }
+{
+    put_digits(out, at, 16, 8, twos_complement(answer.net) as u64);
+    put_digits(out, at + 8, 16, 16, answer.interest);
+    put_digits(out, at + 24, 16, 16, answer.unpaid);
+    put_digits(out, at + 40, 16, 8, answer.credit);
+}
+
+// An answer's line, and the place behind it.
+pub fn put_answer(answer: Answer, out: &mut [u8], at: usize) -> usize
+    requires { ⌜ at + longestAnswer ≤ length (now out) ⌝ }
+    ensures { λ _. ⌜ now (out .exit) ≡ written (now (out .entry)) at (answerLine answer) ⌝ }
+    ensures { λ r. ⌜ r ≡ at + length (answerLine answer) ⌝ }
+    ensures { λ r. ⌜ r ≤ at + longestAnswer ⌝ }
+{
+    put_head(out, at, answer);
+    let volumes = answer.volumes;
+    let next = put_volumes(out, at + 12, volumes);
+    put_amounts(out, next, answer);
+    out[next + 48] = 10;
+    next + 49
+}
+
+// 01 interest, 02 price
+fn kind_number(kind: Kind) -> u64
+    ensures { λ r. ⌜ r ≡ kindNumber kind ⌝ }
+{
+    match kind {
+        Kind::Interest => 1,
+        Kind::Price => 2,
+    }
+}
+
+// The date of a day as eight digits.
+fn put_date(out: &mut [u8], at: usize, day: u16)
+    requires { ⌜ at + 8 ≤ length (now out) ⌝ }
+    ensures { λ _. ⌜ now (out .exit) ≡ written (now (out .entry)) at (dateDigits (toDate day)) ⌝ }
+{
+    let found = Day::to_date(day as u32);
+    match found {
+        FoundDate::Date(date) => {
+            put_digits(out, at, 10, 4, date.year as u64);
+            put_digits(out, at + 4, 10, 2, date.month as u64);
+            put_digits(out, at + 6, 10, 2, date.day as u64);
+        }
+        FoundDate::None => {
+            put_digits(out, at, 10, 8, 0);
+        }
+    }
+}
+
+// The line of an open item.
+pub fn put_notice(item: Item, out: &mut [u8], at: usize)
+    requires { ⌜ at + noticeLength ≤ length (now out) ⌝ }
+    ensures { λ _. ⌜ now (out .exit) ≡ written (now (out .entry)) at (noticeLine item) ⌝ }
+{
+    let kind = item.kind;
+    put_digits(out, at, 16, 2, kind_number(kind));
+    put_date(out, at + 2, item.obligation);
+    put_date(out, at + 10, item.due);
+    put_digits(out, at + 18, 16, 16, item.unpaid);
+    out[at + 34] = 10;
 }

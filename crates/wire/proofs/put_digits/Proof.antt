@@ -58,9 +58,11 @@ loop-less c = omega arith
 
 -- src/lib.rt:236:5
 loop-again : tie.Need-loop-again Inv-loop μ-loop
-loop-again c = (omega arith,
-    length-set (c .before .before .loop .out) (c .before .before .before .before .args .at + (c .before .before .loop .i - 1)) (c .glyph-of .result) ∙ c .before .before .loop .inv .1,
-    c .before .before .loop .inv .2 ∙ written-next (c .before .before .loop .out) (c .before .before .before .before .args .at) (c .before .before .before .before .args .base) (c .before .before .loop .i) (c .before .before .loop .rest) (omega arith) ∙ rw (c .glyph-of .ensures) refl)
+loop-again c = (
+  omega arith,
+  length-set (c .before .before .loop .out) (c .before .before .before .before .args .at + (c .before .before .loop .i - 1)) (c .glyph-of .result) ∙ c .before .before .loop .inv .1,
+  c .before .before .loop .inv .2 ∙ written-next (c .before .before .loop .out) (c .before .before .before .before .args .at) (c .before .before .before .before .args .base) (c .before .before .loop .i) (c .before .before .loop .rest) (omega arith) ∙ rw (c .glyph-of .ensures) refl,
+)
 
 -- src/lib.rt:228:1
 same-length : tie.Need-same-length Inv-loop μ-loop
@@ -68,6 +70,7 @@ same-length c = c .before .loop .inv .1
 
 -- src/lib.rt:228:1
 returns : tie.Need-returns Inv-loop μ-loop
+unfolding digits
 returns c = let done : c .before .loop .i ≡ 0 = omega arith in
     sym (c .before .loop .inv .2 ∙ rw done refl)
 
