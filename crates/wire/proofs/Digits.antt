@@ -78,7 +78,7 @@ large-digit c h = go (isDigit c) refl
         never k = omega (arith, k, value-small c e)
 
 -- One more digit behind others.
-number-snoc : (n : ℕ) (cs : List ℕ) (c : ℕ) → numberFrom n (cs ++ (c ∷ [])) ≡ numberFrom n cs * 16 + valueOf c
+pub number-snoc : (n : ℕ) (cs : List ℕ) (c : ℕ) → numberFrom n (cs ++ (c ∷ [])) ≡ numberFrom n cs * 16 + valueOf c
 number-snoc n [] c = refl
 number-snoc n (d ∷ cs) c = number-snoc (n * 16 + valueOf d) cs c
 

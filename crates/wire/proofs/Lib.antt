@@ -3,3 +3,4 @@ pub mod Digits
 pub mod Frames
 pub mod Answers
 pub mod Writing
+pub mod Encoding

@@ -1,6 +1,6 @@
 -- Input: a line of lower-case hexadecimal is a frame, kind (1 byte), day (2) and the fields of its kind, or it is none.
 use mathlib.Core.Bool.{cond, _&&_}
-use mathlib.Core.List.{List, _++_}
+use mathlib.Core.List.{List, [], _∷_, _++_}
 use Prim.Native.Nat.{ℕ, _+_, _*_, _^_, _<_}
 use lib.Dec.{eqb}
 use lib.ListN.{length, take, drop}
@@ -48,34 +48,36 @@ frameOf line = frameBy (length line) (kindOf line) line
 unfoldable pub parsed : List ℕ → Parsed
 parsed line = cond (every isDigit line) (frameOf line) NotAFrame
 
+-- A number of so many bytes.
+pub record Field : Type 0 where
+  pub width : ℕ
+  pub value : ℕ
+
+abbrev pub of : ℕ → ℕ → Field
+of width value = record { width = width; value = value }
+
+-- The fields of a call's frame, in their order.
+abbrev pub fieldsOf : Call → List Field
+fieldsOf (Opening day reading digits) = of 1 1 ∷ of 2 day ∷ of 4 reading ∷ of 1 digits ∷ []
+fieldsOf (Reading day reading fuel) = of 1 2 ∷ of 2 day ∷ of 4 reading ∷ of 4 (fuel .lng) ∷ of 4 (fuel .propane) ∷ []
+fieldsOf (Missed day fuel) = of 1 3 ∷ of 2 day ∷ of 4 (fuel .lng) ∷ of 4 (fuel .propane) ∷ []
+fieldsOf (Absent day fuel) = of 1 4 ∷ of 2 day ∷ of 4 (fuel .lng) ∷ of 4 (fuel .propane) ∷ []
+fieldsOf (Exchange day old new digits) = of 1 5 ∷ of 2 day ∷ of 4 old ∷ of 4 new ∷ of 1 digits ∷ []
+fieldsOf (Disconnection day reading fuel) = of 1 6 ∷ of 2 day ∷ of 4 reading ∷ of 4 (fuel .lng) ∷ of 4 (fuel .propane) ∷ []
+fieldsOf (Reconnection day reading digits) = of 1 7 ∷ of 2 day ∷ of 4 reading ∷ of 1 digits ∷ []
+fieldsOf (Cancellation day reading fuel) = of 1 8 ∷ of 2 day ∷ of 4 reading ∷ of 4 (fuel .lng) ∷ of 4 (fuel .propane) ∷ []
+fieldsOf (Payment day yen) = of 1 9 ∷ of 2 day ∷ of 4 yen ∷ []
+fieldsOf (StoppedCancellation day) = of 1 10 ∷ of 2 day ∷ []
+
+abbrev pub packed : List Field → List ℕ
+packed [] = []
+packed (f ∷ fs) = bytes (f .width) (f .value) ++ packed fs
+
 -- The line of a call.
-abbrev pub fuelBytes : Fuel → List ℕ
-fuelBytes fuel = bytes 4 (fuel .lng) ++ bytes 4 (fuel .propane)
+unfoldable pub encoded : Call → List ℕ
+encoded call = packed (fieldsOf call)
 
-abbrev pub encoded : Call → List ℕ
-encoded (Opening day reading digits) = bytes 1 1 ++ bytes 2 day ++ bytes 4 reading ++ bytes 1 digits
-encoded (Reading day reading fuel) = bytes 1 2 ++ bytes 2 day ++ bytes 4 reading ++ fuelBytes fuel
-encoded (Missed day fuel) = bytes 1 3 ++ bytes 2 day ++ fuelBytes fuel
-encoded (Absent day fuel) = bytes 1 4 ++ bytes 2 day ++ fuelBytes fuel
-encoded (Exchange day old new digits) = bytes 1 5 ++ bytes 2 day ++ bytes 4 old ++ bytes 4 new ++ bytes 1 digits
-encoded (Disconnection day reading fuel) = bytes 1 6 ++ bytes 2 day ++ bytes 4 reading ++ fuelBytes fuel
-encoded (Reconnection day reading digits) = bytes 1 7 ++ bytes 2 day ++ bytes 4 reading ++ bytes 1 digits
-encoded (Cancellation day reading fuel) = bytes 1 8 ++ bytes 2 day ++ bytes 4 reading ++ fuelBytes fuel
-encoded (Payment day yen) = bytes 1 9 ++ bytes 2 day ++ bytes 4 yen
-encoded (StoppedCancellation day) = bytes 1 10 ++ bytes 2 day
-
--- The fields of a call as its types hold them.
-abbrev pub FuelFits : Fuel → Type 0
-FuelFits fuel = (fuel .lng < 2 ^ 32) × (fuel .propane < 2 ^ 32)
-
-abbrev pub CallFits : Call → Type 0
-CallFits (Opening day reading digits) = (day < 2 ^ 16) × (reading < 2 ^ 32) × (digits < 2 ^ 8)
-CallFits (Reading day reading fuel) = (day < 2 ^ 16) × (reading < 2 ^ 32) × FuelFits fuel
-CallFits (Missed day fuel) = (day < 2 ^ 16) × FuelFits fuel
-CallFits (Absent day fuel) = (day < 2 ^ 16) × FuelFits fuel
-CallFits (Exchange day old new digits) = (day < 2 ^ 16) × (old < 2 ^ 32) × (new < 2 ^ 32) × (digits < 2 ^ 8)
-CallFits (Disconnection day reading fuel) = (day < 2 ^ 16) × (reading < 2 ^ 32) × FuelFits fuel
-CallFits (Reconnection day reading digits) = (day < 2 ^ 16) × (reading < 2 ^ 32) × (digits < 2 ^ 8)
-CallFits (Cancellation day reading fuel) = (day < 2 ^ 16) × (reading < 2 ^ 32) × FuelFits fuel
-CallFits (Payment day yen) = (day < 2 ^ 16) × (yen < 2 ^ 32)
-CallFits (StoppedCancellation day) = day < 2 ^ 16
+-- Each value in its bytes, two digits a byte: what the types of a call hold.
+abbrev pub Fit : List Field → Type 0
+Fit [] = Unit {0}
+Fit (f ∷ fs) = (f .value < 16 ^ (2 * f .width)) × Fit fs

@@ -1,0 +1,64 @@
+//! Writes generated inputs.
+
+use std::fs;
+use std::io::{self, Write};
+use std::path::Path;
+use std::process::ExitCode;
+
+use reference::{benchmarks, generator};
+
+const USAGE: &str =
+    "usage: lives --long N [--seed S]            one life of N lines, to standard output
+       lives --small N --dir D [--seed S]  N files of about twenty lines
+       lives --any N --dir D [--seed S]    the first N lives that compare uses";
+
+/// The value after an option.
+fn value(words: &[String], name: &str) -> Option<String> {
+    let place = words.iter().position(|word| word == name)?;
+    words.get(place + 1).cloned()
+}
+
+fn number(words: &[String], name: &str) -> Option<u64> {
+    value(words, name)?.parse().ok()
+}
+
+fn write_long(lines: u64, seed: u64) -> io::Result<()> {
+    io::stdout().lock().write_all(&benchmarks::long_life(lines, seed))
+}
+
+fn write_files(count: u64, folder: &str, life: impl Fn(u64) -> Vec<u8>) -> io::Result<()> {
+    fs::create_dir_all(folder)?;
+    for index in 0..count {
+        fs::write(Path::new(folder).join(format!("{index:07}.txt")), life(index))?;
+    }
+    Ok(())
+}
+
+fn run(words: &[String]) -> Option<io::Result<()>> {
+    let seed = number(words, "--seed").unwrap_or(1);
+    if let Some(lines) = number(words, "--long") {
+        return Some(write_long(lines, seed));
+    }
+    let folder = value(words, "--dir")?;
+    if let Some(count) = number(words, "--small") {
+        let small = |index| benchmarks::small_life(generator::seed_of(seed, index));
+        return Some(write_files(count, &folder, small));
+    }
+    let count = number(words, "--any")?;
+    Some(write_files(count, &folder, |index| generator::life(seed, index).input))
+}
+
+fn main() -> ExitCode {
+    let words: Vec<String> = std::env::args().skip(1).collect();
+    match run(&words) {
+        Some(Ok(())) => ExitCode::SUCCESS,
+        Some(Err(error)) => {
+            eprintln!("{error}");
+            ExitCode::FAILURE
+        }
+        None => {
+            eprintln!("{USAGE}");
+            ExitCode::from(2)
+        }
+    }
+}
