@@ -1,0 +1,2 @@
+-- Laws of lines and pieces.
+pub mod Feeding

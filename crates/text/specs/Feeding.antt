@@ -1,0 +1,55 @@
+-- An input that comes in pieces: what is kept between them, and what a piece makes of it.
+use mathlib.Core.Bool.{cond}
+use mathlib.Core.List.{List, [], _∷_, _++_}
+use Prim.Native.Nat.{ℕ, suc, _+_, _-_}
+use lib.Dec.{eqb, ltb}
+use lib.ListN.{length, set, take, replicate}
+use Rattle.account.specs.declared.Outcome.{Outcome}
+use Rattle.account.specs.Calls.{newAccount}
+use Rattle.wire.specs.Answers.{lineFeed, answerLine, longestAnswer}
+use Rattle.text.specs.declared.Session.{Session}
+use Rattle.text.specs.declared.Fed.{Fed}
+use Rattle.text.specs.Output.{lineOutcome}
+
+-- The longest frame is 30 characters; of a longer line the first 31 are kept, enough to know that it is none.
+abbrev pub keptMost : ℕ
+keptMost = 31
+
+abbrev pub fresh : Session
+fresh = record { account = newAccount; length = 0; line = replicate keptMost 0 }
+
+-- The part of a line that came.
+abbrev pub lineOf : Session → List ℕ
+lineOf s = take (s .length) (s .line)
+
+abbrev pub kept : Session → ℕ → Session
+kept s c = cond (ltb (s .length) keptMost) (record { account = s .account; length = suc (s .length); line = set (s .line) (s .length) c }) s
+
+abbrev pub lineEnds : Session → Outcome
+lineEnds s = lineOutcome (s .account) (lineOf s)
+
+abbrev pub ended : Session → Session
+ended s = record { account = lineEnds s .account; length = 0; line = s .line }
+
+-- What a piece makes: the session behind it, what is written, how many bytes of the piece were taken.
+pub record Feeding : Type 0 where
+  pub session : Session
+  pub output : List ℕ
+  pub taken : ℕ
+
+abbrev pub nothing : Session → Feeding
+nothing s = record { session = s; output = []; taken = 0 }
+
+abbrev pub behind : List ℕ → Feeding → Feeding
+behind xs f = record { session = f .session; output = xs ++ f .output; taken = suc (f .taken) }
+
+-- Byte by byte; before a line's end that the room left might not hold, it stops.
+unfoldable pub feeding : ℕ → Session → List ℕ → Feeding
+feeding room s [] = nothing s
+feeding room s (c ∷ cs) =
+    cond (eqb c lineFeed)
+    (cond (ltb room longestAnswer) (nothing s) (behind (answerLine (lineEnds s .answer)) (feeding (room - length (answerLine (lineEnds s .answer))) (ended s) cs)))
+    (behind [] (feeding room (kept s c) cs))
+
+abbrev pub fedOf : Feeding → Fed
+fedOf f = record { session = f .session; taken = f .taken; written = length (f .output) }

@@ -1,0 +1,57 @@
+-- What the programs write for an input.
+use mathlib.Core.List.{List, [], _∷_, _++_}
+use Prim.Native.Nat.{ℕ}
+use lib.ListN.{take}
+use Rattle.ledger.specs.declared.Item.{Item}
+use Rattle.account.specs.declared.Account.{Account}
+use Rattle.account.specs.declared.Call.{Call}
+use Rattle.account.specs.declared.Outcome.{Outcome}
+use Rattle.account.specs.Calls.{newAccount}
+use Rattle.account.specs.Outcomes.{outcome, declined}
+use Rattle.wire.specs.declared.Parsed.{Parsed}
+use Rattle.wire.specs.declared.Parsed.the-variants.{Frame, NotAFrame}
+use Rattle.wire.specs.Frames.{parsed}
+use Rattle.wire.specs.Answers.{answerLine}
+use Rattle.wire.specs.Notices.{noticeLine}
+use Rattle.text.specs.Lines.{linesOf}
+
+-- Number 40: not a frame, wrong length, other characters, empty line. It comes before 41.
+abbrev pub parsedOutcome : Account → Parsed → Outcome
+parsedOutcome a (Frame call) = outcome a call
+parsedOutcome a NotAFrame = declined a 40
+
+abbrev pub lineOutcome : Account → List ℕ → Outcome
+lineOutcome a line = parsedOutcome a (parsed line)
+
+-- One frame a line, each on the account that the line before left.
+unfoldable pub billed : Account → List (List ℕ) → List ℕ
+billed a [] = []
+billed a (line ∷ lines) = answerLine (lineOutcome a line .answer) ++ billed (lineOutcome a line .account) lines
+
+unfoldable pub accountAfter : Account → List (List ℕ) → Account
+accountAfter a [] = a
+accountAfter a (line ∷ lines) = accountAfter (lineOutcome a line .account) lines
+
+-- Each open item, oldest first.
+abbrev pub noticesOf : List Item → List ℕ
+noticesOf [] = []
+noticesOf (item ∷ items) = noticeLine item ++ noticesOf items
+
+abbrev pub openNotices : Account → List ℕ
+openNotices a = noticesOf (take (a .ledger .count) (a .ledger .items))
+
+-- The programs: input bytes to output bytes.
+unfoldable pub bill : List ℕ → List ℕ
+bill input = billed newAccount (linesOf input)
+
+unfoldable pub notice : List ℕ → List ℕ
+notice input = openNotices (accountAfter newAccount (linesOf input))
+
+-- The calls among lines.
+abbrev pub callsIn : Parsed → List Call → List Call
+callsIn (Frame call) calls = call ∷ calls
+callsIn NotAFrame calls = calls
+
+abbrev pub callsOf : List (List ℕ) → List Call
+callsOf [] = []
+callsOf (line ∷ lines) = callsIn (parsed line) (callsOf lines)

@@ -1,0 +1,104 @@
+// From the bytes of a household's file to the bytes that the programs write, in pieces of any size.
+ghost use mathlib.Core.Path.{_≡_};
+ghost use Prim.Native.Nat.{min};
+ghost use lib.ListN.{length};
+ghost use Rattle.wire.specs.Digits.{written};
+ghost use Rattle.text.specs.Output.{lineOutcome};
+ghost use Rattle.text.specs.Feeding.{fresh, feeding, fedOf};
+use account::Account;
+use account::Outcome;
+use wire::Parsed;
+
+// What is kept between pieces: the account, and the first 31 characters of a line that has begun.
+pub struct Session {
+    pub account: Account,
+    pub length: usize,
+    pub line: [u8; 31],
+}
+
+// The session behind a piece, the bytes of the piece that were taken and the bytes written.
+pub struct Fed {
+    pub session: Session,
+    pub taken: usize,
+    pub written: usize,
+}
+
+impl Session {
+    pub fn new() -> Session
+        ensures { λ r. ⌜ r ≡ fresh ⌝ }
+    {
+        Session {
+            account: Account::new(),
+            length: 0,
+            line: [0; 31],
+        }
+    }
+}
+
+// A line's outcome: 40, or that of its call.
+fn answer_line(account: Account, line: &[u8]) -> Outcome
+    ensures { λ r. ⌜ r ≡ lineOutcome account (now (line .entry)) ⌝ }
+{
+    let parsed = wire::decode(line);
+    match parsed {
+        Parsed::Frame(call) => account.apply(call),
+        Parsed::NotAFrame => account::whole::decline(account, 40),
+    }
+}
+
+// Takes a piece of the input and fills out from its start. What is not taken for want of room is to be fed again.
+pub fn feed(session: Session, input: &[u8], out: &mut [u8]) -> Fed
+    ensures { λ r. ⌜ r ≡ fedOf (feeding (length (now (out .entry))) session (now (input .entry))) ⌝ }
+    ensures { λ _. ⌜ now (out .exit) ≡ written (now (out .entry)) 0 (feeding (length (now (out .entry))) session (now (input .entry)) .output) ⌝ }
+{
+    let mut account = session.account;
+    let mut length = session.length;
+    let mut line = session.line;
+    let mut taken: usize = 0;
+    let mut written: usize = 0;
+    while taken < input.len() {
+        let character = input[taken];
+        if character == 10 {
+            if out.len() - written < 117 {
+                return Fed {
+                    session: Session {
+                        account,
+                        length,
+                        line,
+                    },
+                    taken,
+                    written,
+                };
+            }
+            let end = shown_length(length);
+            let outcome = answer_line(account, &line[..end]);
+            written = wire::put_answer(outcome.answer, out, written);
+            account = outcome.account;
+            length = 0;
+            taken += 1;
+            continue;
+        }
+        taken += 1;
+        if length < 31 {
+            line[length] = character;
+            length += 1;
+            continue;
+        }
+    }
+    Fed {
+        session: Session {
+            account,
+            length,
+            line,
+        },
+        taken,
+        written,
+    }
+}
+
+// The characters kept of a line.
+fn shown_length(length: usize) -> usize
+    ensures { λ r. ⌜ r ≡ min length 31 ⌝ }
+{
+    if length < 31 { length } else { 31 }
+}
