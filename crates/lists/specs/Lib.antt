@@ -2,3 +2,4 @@
 pub mod Sum
 pub mod Pad
 pub mod Every
+pub mod Joined

@@ -53,3 +53,7 @@ feeding room s (c ∷ cs) =
 
 abbrev pub fedOf : Feeding → Fed
 fedOf f = record { session = f .session; taken = f .taken; written = length (f .output) }
+
+-- The end of the input ends a line that has begun, as an LF would.
+unfoldable pub finishing : ℕ → Session → Feeding
+finishing room s = cond (eqb (s .length) 0) (nothing s) (feeding room s (lineFeed ∷ []))

@@ -1,7 +1,10 @@
 -- What the programs write for an input.
+use mathlib.Core.Bool.{cond}
 use mathlib.Core.List.{List, [], _∷_, _++_}
 use Prim.Native.Nat.{ℕ}
-use lib.ListN.{take}
+use lib.Dec.{leb}
+use lib.ListN.{length, take}
+use Rattle.lists.specs.Joined.{joined}
 use Rattle.ledger.specs.declared.Item.{Item}
 use Rattle.account.specs.declared.Account.{Account}
 use Rattle.account.specs.declared.Call.{Call}
@@ -10,6 +13,7 @@ use Rattle.account.specs.Calls.{newAccount}
 use Rattle.account.specs.Outcomes.{outcome, declined}
 use Rattle.wire.specs.declared.Parsed.{Parsed}
 use Rattle.wire.specs.declared.Parsed.the-variants.{Frame, NotAFrame}
+use Rattle.wire.specs.Digits.{written}
 use Rattle.wire.specs.Frames.{parsed}
 use Rattle.wire.specs.Answers.{answerLine}
 use Rattle.wire.specs.Notices.{noticeLine}
@@ -34,8 +38,7 @@ accountAfter a (line ∷ lines) = accountAfter (lineOutcome a line .account) lin
 
 -- Each open item, oldest first.
 abbrev pub noticesOf : List Item → List ℕ
-noticesOf [] = []
-noticesOf (item ∷ items) = noticeLine item ++ noticesOf items
+noticesOf items = joined noticeLine items
 
 abbrev pub openNotices : Account → List ℕ
 openNotices a = noticesOf (take (a .ledger .count) (a .ledger .items))
@@ -55,3 +58,7 @@ callsIn NotAFrame calls = calls
 abbrev pub callsOf : List (List ℕ) → List Call
 callsOf [] = []
 callsOf (line ∷ lines) = callsIn (parsed line) (callsOf lines)
+
+-- Text that is written where there is room for it, and otherwise not.
+abbrev pub fitted : List ℕ → List ℕ → List ℕ
+fitted place text = cond (leb (length text) (length place)) (written place 0 text) place

@@ -1,12 +1,14 @@
 // From the bytes of a household's file to the bytes that the programs write, in pieces of any size.
 ghost use mathlib.Core.Path.{_≡_};
-ghost use Prim.Native.Nat.{min};
-ghost use lib.ListN.{length};
+ghost use Prim.Native.Nat.{_*_, min, _≤_};
+ghost use lib.ListN.{length, take};
 ghost use Rattle.wire.specs.Digits.{written};
-ghost use Rattle.text.specs.Output.{lineOutcome};
-ghost use Rattle.text.specs.Feeding.{fresh, feeding, fedOf};
+ghost use Rattle.wire.specs.Notices.{noticeLength};
+ghost use Rattle.text.specs.Output.{lineOutcome, noticesOf, openNotices, fitted};
+ghost use Rattle.text.specs.Feeding.{fresh, feeding, finishing, fedOf};
 use account::Account;
 use account::Outcome;
+use ledger::Ledger;
 use wire::Parsed;
 
 // What is kept between pieces: the account, and the first 31 characters of a line that has begun.
@@ -101,4 +103,53 @@ fn shown_length(length: usize) -> usize
     ensures { λ r. ⌜ r ≡ min length 31 ⌝ }
 {
     if length < 31 { length } else { 31 }
+}
+
+// The end of the input: ends a line that has begun.
+pub fn finish(session: Session, out: &mut [u8]) -> Fed
+    ensures { λ r. ⌜ r ≡ fedOf (finishing (length (now (out .entry))) session) ⌝ }
+    ensures { λ _. ⌜ now (out .exit) ≡ written (now (out .entry)) 0 (finishing (length (now (out .entry))) session .output) ⌝ }
+{
+    if session.length == 0 {
+        return Fed {
+            session,
+            taken: 0,
+            written: 0,
+        };
+    }
+    let end = [10u8; 1];
+    feed(session, &end, out)
+}
+
+// The notices of an account's open items, and their length; where out is too short for it, nothing is written.
+pub fn put_notices(account: Account, out: &mut [u8]) -> usize
+    ensures { λ r. ⌜ r ≡ length (openNotices account) ⌝ }
+    ensures { λ _. ⌜ now (out .exit) ≡ fitted (now (out .entry)) (openNotices account) ⌝ }
+{
+    let ledger = account.ledger;
+    let size = 35 * shown_items(ledger.count);
+    if size <= out.len() {
+        put_items(ledger, out);
+    }
+    size
+}
+
+// The items of an array that counts them.
+fn shown_items(count: usize) -> usize
+    ensures { λ r. ⌜ r ≡ min count 72 ⌝ }
+{
+    if count < 72 { count } else { 72 }
+}
+
+fn put_items(ledger: Ledger, out: &mut [u8])
+    requires { ⌜ noticeLength * min (ledger .count) 72 ≤ length (now out) ⌝ }
+    ensures { λ _. ⌜ now (out .exit) ≡ written (now (out .entry)) 0 (noticesOf (take (ledger .count) (ledger .items))) ⌝ }
+{
+    let items = ledger.items;
+    let shown = shown_items(ledger.count);
+    let mut i: usize = 0;
+    while i < shown {
+        wire::put_notice(items[i], out, 35 * i);
+        i += 1;
+    }
 }

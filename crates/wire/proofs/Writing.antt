@@ -1,6 +1,6 @@
 -- Laws of writing. Assumes nothing.
 use mathlib.Core.Path.{_≡_, refl, sym, ap, _∙_}
-use mathlib.Core.List.{List, [], _∷_, _++_, append-assoc, append-nil}
+use mathlib.Core.List.{List, [], _∷_, _++_}
 use Prim.Native.Nat.{ℕ, zero, suc, _+_, _-_, _*_, _/_, _%_, _≤_, _<_}
 use native.Mathlib.Nat.{add-zero, add-suc, suc-add, not-suc-le-zero}
 use native.Mathlib.Omega.{arith}
@@ -9,9 +9,11 @@ use lib.ListN.{length, getD, set, take, length-append}
 use lib.Seq.{set-comm, take-suc, take-all, length-take-le}
 use Rattle.wire.specs.Digits.{glyph, digits, bytes, written}
 use Rattle.calendar.specs.declared.FoundDate.{FoundDate}
+use Rattle.calendar.specs.Conversions.{toDate}
+use Rattle.ledger.specs.declared.Item.{Item}
 use Rattle.account.specs.declared.Answer.{Answer}
-use Rattle.wire.specs.Answers.{twosComplement, volumesBytes, answerHead, answerAmounts}
-use Rattle.wire.specs.Notices.{dateDigits}
+use Rattle.wire.specs.Answers.{lineFeed, twosComplement, answerHead, answerAmounts}
+use Rattle.wire.specs.Notices.{kindNumber, dateDigits, noticeLine, noticeLength}
 
 -- One text behind another is written behind it.
 pub written-behind : (text : List ℕ) (at : ℕ) (xs ys : List ℕ) → written text at (xs ++ ys) ≡ written (written text at xs) (at + length xs) ys
@@ -53,21 +55,6 @@ written-next text at base (suc k) n h = rw (suc-sub-one k) (written-digit text a
 pub length-behind : (xs ys : List ℕ) (m n : ℕ) → length xs ≡ m → length ys ≡ n → length (xs ++ ys) ≡ m + n
 length-behind xs ys m n e f = length-append xs ys ∙ rw (e, f) refl
 
-pub length-volumes : (volumes : List ℕ) → length (volumesBytes volumes) ≡ 8 * length volumes
-length-volumes [] = refl
-length-volumes (v ∷ vs) = length-behind (bytes 4 v) (volumesBytes vs) 8 (8 * length vs) (length-digits 16 8 v) (length-volumes vs) ∙ omega arith
-
--- One volume more.
-pub volumes-more : (volumes : List ℕ) (v : ℕ) → volumesBytes (volumes ++ (v ∷ [])) ≡ volumesBytes volumes ++ bytes 4 v
-volumes-more [] v = append-nil (bytes 4 v)
-volumes-more (w ∷ ws) v = ap (λ r. bytes 4 w ++ r) (volumes-more ws v) ∙ sym (append-assoc (bytes 4 w) (volumesBytes ws) (bytes 4 v))
-
-pub volumes-next : (volumes : List ℕ) (i : ℕ) → i < length volumes → volumesBytes (take (i + 1) volumes) ≡ volumesBytes (take i volumes) ++ bytes 4 (getD volumes i 0)
-volumes-next volumes i h = rw (add-one i) (ap volumesBytes (take-suc volumes i 0 h) ∙ volumes-more (take i volumes) (getD volumes i 0))
-
-pub volumes-length : (volumes : List ℕ) (i : ℕ) → i ≤ length volumes → length (volumesBytes (take i volumes)) ≡ 8 * i
-volumes-length volumes i h = length-volumes (take i volumes) ∙ ap (λ n. 8 * n) (length-take-le i volumes h)
-
 -- More than there are is all there are.
 pub volumes-most : (volumes : List ℕ) (count : ℕ) → length volumes ≡ 7 → 7 ≤ count → take count volumes ≡ take 7 volumes
 volumes-most volumes count l h = take-all count volumes (omega arith) ∙ sym (take-all 7 volumes (omega arith))
@@ -95,3 +82,14 @@ length-date (FoundDate.Date date) =
     (length-behind (digits 10 4 (date .year)) (digits 10 2 (date .month)) 4 2 (length-digits 10 4 (date .year)) (length-digits 10 2 (date .month)))
     (length-digits 10 2 (date .day))
 length-date FoundDate.None = length-digits 10 8 0
+
+pub length-notice : (item : Item) → length (noticeLine item) ≡ noticeLength
+unfolding noticeLine
+length-notice item =
+    let kind = bytes 1 (kindNumber (item .kind)) in
+    let obligation = dateDigits (toDate (item .obligation)) in
+    let due = dateDigits (toDate (item .due)) in
+    let two = length-behind kind obligation 2 8 (length-digits 16 2 (kindNumber (item .kind))) (length-date (toDate (item .obligation))) in
+    let three = length-behind (kind ++ obligation) due 10 8 two (length-date (toDate (item .due))) in
+    length-behind (kind ++ obligation ++ due ++ bytes 8 (item .unpaid)) (lineFeed ∷ []) 34 1
+    (length-behind (kind ++ obligation ++ due) (bytes 8 (item .unpaid)) 18 16 three (length-digits 16 16 (item .unpaid))) refl

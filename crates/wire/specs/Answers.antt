@@ -3,6 +3,7 @@ use mathlib.Core.List.{List, [], _∷_, _++_}
 use Prim.Native.Nat.{ℕ, suc, _-_, _^_}
 use lib.IntN.{ℤ, pos, negsuc}
 use lib.ListN.{take}
+use Rattle.lists.specs.Joined.{joined}
 use Rattle.account.specs.declared.Answer.{Answer}
 use Rattle.wire.specs.Digits.{bytes}
 
@@ -16,8 +17,7 @@ twosComplement (negsuc n) = 2 ^ 32 - suc n
 
 -- Volumes, 4 bytes each.
 abbrev pub volumesBytes : List ℕ → List ℕ
-volumesBytes [] = []
-volumesBytes (volume ∷ volumes) = bytes 4 volume ++ volumesBytes volumes
+volumesBytes volumes = joined (bytes 4) volumes
 
 -- Number (1), estimated volume (4), n (1).
 abbrev pub answerHead : Answer → List ℕ

@@ -5,6 +5,7 @@ use Prim.Native.Nat.{ℕ, _+_, _*_, _^_, _<_}
 use lib.Dec.{eqb}
 use lib.ListN.{length, take, drop}
 use Rattle.lists.specs.Every.{every}
+use Rattle.lists.specs.Joined.{joined}
 use Rattle.tariff.specs.declared.Fuel.{Fuel}
 use Rattle.account.specs.declared.Call.{Call}
 use Rattle.account.specs.declared.Call.the-variants.{Opening, Reading, Missed, Absent, Exchange, Disconnection, Reconnection, Cancellation, Payment, StoppedCancellation}
@@ -70,8 +71,7 @@ fieldsOf (Payment day yen) = of 1 9 ∷ of 2 day ∷ of 4 yen ∷ []
 fieldsOf (StoppedCancellation day) = of 1 10 ∷ of 2 day ∷ []
 
 abbrev pub packed : List Field → List ℕ
-packed [] = []
-packed (f ∷ fs) = bytes (f .width) (f .value) ++ packed fs
+packed fs = joined (λ f. bytes (f .width) (f .value)) fs
 
 -- The line of a call.
 unfoldable pub encoded : Call → List ℕ

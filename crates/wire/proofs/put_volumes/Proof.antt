@@ -1,7 +1,8 @@
 use Prim.Native.Nat.{_*_}
 use lib.ListN.{getD}
 use Rattle.wire.specs.Digits.{bytes}
-use Rattle.wire.proofs.Writing.{written-on, volumes-next, volumes-length, volumes-most}
+use Rattle.wire.proofs.Writing.{written-on, length-digits, volumes-most}
+use Rattle.lists.proofs.Joined.{joined-next, joined-taken}
 use borrow.Author.Needs.{needs}
 use mathlib.Core.Path.{_≡_, refl, sym, ap, _∙_}
 use Prim.Native.Nat.{_-_, _≤_}
@@ -38,7 +39,7 @@ returns : tie.Need-returns Inv-loop μ-loop
 returns c = let long : length (c .before .before .before .before .before .args .volumes .volumes) ≡ 7 = search needs in
     let all : take (c .before .before .before .before .before .args .volumes .count) (c .before .before .before .before .before .args .volumes .volumes) ≡ take 7 (c .before .before .before .before .before .args .volumes .volumes) = volumes-most (c .before .before .before .before .before .args .volumes .volumes) (c .before .before .before .before .before .args .volumes .count) long (omega arith) in
     let seven : c .before .before .loop .i ≡ 7 = omega arith in
-    rw (all, volumes-length (c .before .before .before .before .before .args .volumes .volumes) 7 (omega arith)) (rw seven at (c .before .before .loop .inv .3), (refl, omega arith))
+    rw (all, joined-taken (bytes 4) 8 (length-digits 16 8) (c .before .before .before .before .before .args .volumes .volumes) 7 (omega arith)) (rw seven at (c .before .before .loop .inv .3), (refl, omega arith))
 
 -- src/lib.rt:275:30
 mul-put-digits : tie.Need-mul-put-digits Inv-loop μ-loop
@@ -75,7 +76,7 @@ loop-less c = omega arith
 -- src/lib.rt:271:5
 loop-again : tie.Need-loop-again Inv-loop μ-loop
 loop-again c = let long : length (c .before .before .before .before .before .before .before .before .before .args .volumes .volumes) ≡ 7 = search needs in
-    (omega arith, omega arith, search needs, rw (volumes-next (c .before .before .before .before .before .before .before .before .before .args .volumes .volumes) (c .before .before .before .before .before .before .loop .i) (omega arith)) (written-on (c .before .before .before .before .before .before .before .before .before .args .out .now) (c .before .before .before .before .before .before .before .before .before .args .at) (volumesBytes (take (c .before .before .before .before .before .before .loop .i) (c .before .before .before .before .before .before .before .before .before .args .volumes .volumes))) (bytes 4 (getD (c .before .before .before .before .before .before .before .before .before .args .volumes .volumes) (c .before .before .before .before .before .before .loop .i) 0)) (8 * c .before .before .before .before .before .before .loop .i) (volumes-length (c .before .before .before .before .before .before .before .before .before .args .volumes .volumes) (c .before .before .before .before .before .before .loop .i) (omega arith)) (c .before .before .before .before .before .before .loop .inv .3) (c .before .before .put-digits .ensures)))
+    (omega arith, omega arith, search needs, rw (joined-next (bytes 4) (c .before .before .before .before .before .before .before .before .before .args .volumes .volumes) (c .before .before .before .before .before .before .loop .i) 0 (omega arith)) (written-on (c .before .before .before .before .before .before .before .before .before .args .out .now) (c .before .before .before .before .before .before .before .before .before .args .at) (volumesBytes (take (c .before .before .before .before .before .before .loop .i) (c .before .before .before .before .before .before .before .before .before .args .volumes .volumes))) (bytes 4 (getD (c .before .before .before .before .before .before .before .before .before .args .volumes .volumes) (c .before .before .before .before .before .before .loop .i) 0)) (8 * c .before .before .before .before .before .before .loop .i) (joined-taken (bytes 4) 8 (length-digits 16 8) (c .before .before .before .before .before .before .before .before .before .args .volumes .volumes) (c .before .before .before .before .before .before .loop .i) (omega arith)) (c .before .before .before .before .before .before .loop .inv .3) (c .before .before .put-digits .ensures)))
 
 -- src/lib.rt:278:10
 mul-result : tie.Need-mul-result Inv-loop μ-loop
@@ -93,7 +94,7 @@ same-length-2 c = search (c .before .loop .inv .2, needs)
 returns-2 : tie.Need-returns-2 Inv-loop μ-loop
 returns-2 c = let long : length (c .before .before .before .before .args .volumes .volumes) ≡ 7 = search needs in
     let done : c .before .loop .i ≡ c .before .before .before .before .args .volumes .count = omega arith in
-    rw (← done, volumes-length (c .before .before .before .before .args .volumes .volumes) (c .before .loop .i) (omega arith)) (c .before .loop .inv .3, (refl, omega arith))
+    rw (← done, joined-taken (bytes 4) 8 (length-digits 16 8) (c .before .before .before .before .args .volumes .volumes) (c .before .loop .i) (omega arith)) (c .before .loop .inv .3, (refl, omega arith))
 
 pub put-volumes-spec : {M : Type 1} → statement M
 put-volumes-spec =

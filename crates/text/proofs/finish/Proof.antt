@@ -1,0 +1,29 @@
+use borrow.Author.Needs.{needs}
+use Rattle.text.proofs.finish.Statement.{statement}
+use Rattle.text.proofs.finish.Tie as tie
+use Rattle.text.proofs.finish.Reads as reads
+use Rattle.text.proofs.finish.Lts as lts
+use Rattle.text.proofs.feed.Reads as feed-reads
+
+-- src/lib.rt:114:9
+returns : tie.Need-returns
+returns c = ?
+
+-- src/lib.rt:121:19
+slice-aggregate-feed : tie.Need-slice-aggregate-feed
+slice-aggregate-feed c = search needs
+
+-- src/lib.rt:121:5
+feed-requires : tie.Need-feed-requires
+feed-requires c κs = search needs
+
+-- src/lib.rt:109:1
+same-length : tie.Need-same-length
+same-length c = search needs
+
+-- src/lib.rt:109:1
+returns-2 : tie.Need-returns-2
+returns-2 c = ?
+
+pub finish-spec : {M : Type 1} → statement M
+finish-spec = tie.close (tie.spec returns slice-aggregate-feed feed-requires same-length returns-2)
