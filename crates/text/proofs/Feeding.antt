@@ -2,7 +2,7 @@
 use mathlib.Core.Path.{_≡_, refl, sym, ap, _∙_}
 use mathlib.Core.Bool.{Bool, true, false}
 use mathlib.Core.List.{List, [], _∷_, _++_}
-use Prim.Native.Nat.{ℕ, zero, suc, _+_, _-_, min, _≤_, _<_}
+use Prim.Native.Nat.{ℕ, zero, suc, _+_, _-_, _*_, min, _≤_, _<_}
 use native.Mathlib.Nat.{zero-add, add-zero, min-eq-left, min-eq-right, le-of-lt}
 use native.Mathlib.Omega.{arith}
 use native.Mathlib.Numerals.{add-one}
@@ -10,14 +10,18 @@ use lib.Dec.{leb}
 use lib.ListN.{length, getD, set, take, drop, length-append, drop-of-length-le}
 use lib.Seq.{drop-cons, take-all}
 use borrow.Author.Tests.{eq-eqb, ne-eqb, lt-ltb, le-ltb, leb-true, leb-false}
+use Rattle.lists.proofs.Joined.{joined-taken}
+use Rattle.ledger.specs.declared.Item.{Item}
 use Rattle.account.specs.declared.Account.{Account}
 use Rattle.account.specs.declared.Outcome.{Outcome}
 use Rattle.wire.specs.Digits.{written}
 use Rattle.wire.specs.Answers.{lineFeed, answerLine, longestAnswer}
-use Rattle.wire.proofs.Writing.{written-behind}
+use Rattle.wire.specs.Notices.{noticeLine}
+use Rattle.wire.proofs.Writing.{written-behind, length-notice}
 use Rattle.text.specs.declared.Session.{Session}
 use Rattle.text.specs.declared.Fed.{Fed}
-use Rattle.text.specs.Feeding.{keptMost, lineOf, kept, lineEnds, ended, Feeding, nothing, behind, feeding, fedOf}
+use Rattle.text.specs.Output.{noticesOf}
+use Rattle.text.specs.Feeding.{keptMost, lineOf, kept, lineEnds, ended, Feeding, nothing, behind, feeding, finishing, fedOf}
 
 abbrev pub session : Account → ℕ → List ℕ → Session
 session account long line = record { account = account; length = long; line = line }
@@ -41,14 +45,13 @@ kept-within a n line c h = rw (lt-ltb n 31 h, add-one n) refl
 pub kept-full : (a : Account) (n : ℕ) (line : List ℕ) (c : ℕ) → 31 ≤ n → kept (session a n line) c ≡ session a n line
 kept-full a n line c h = rw (le-ltb n 31 h) refl
 
--- More characters than are kept are all that are kept.
-pub shown-line : (n : ℕ) (line : List ℕ) → length line ≡ 31 → take (min n 31) line ≡ take n line
-shown-line n line l = go (leb n 31) refl
+-- More elements than there are are all there are.
+pub take-min : {A : Type 0} (n m : ℕ) (xs : List A) → length xs ≡ m → take (min n m) xs ≡ take n xs
+take-min n m xs l = go (leb n m) refl
   where
-    go : (b : Bool) → leb n 31 ≡ b → take (min n 31) line ≡ take n line
-    go true e = ap (λ k. take k line) (min-eq-left (leb-true n 31 e))
-    go false e =
-        ap (λ k. take k line) (min-eq-right (le-of-lt (leb-false n 31 e))) ∙ take-all 31 line (omega arith) ∙ sym (take-all n line (omega (arith, leb-false n 31 e)))
+    go : (b : Bool) → leb n m ≡ b → take (min n m) xs ≡ take n xs
+    go true e = ap (λ k. take k xs) (min-eq-left (leb-true n m e))
+    go false e = ap (λ k. take k xs) (min-eq-right (le-of-lt (leb-false n m e))) ∙ take-all m xs (omega arith) ∙ sym (take-all n xs (omega (arith, leb-false n m e)))
 
 -- A feeding under way: the whole is what is done, with what the rest makes behind it.
 pub record Ahead (whole : Feeding) (text : List ℕ) (taken place : ℕ) (rest : Feeding) (out : List ℕ) : Type 0 where
@@ -98,3 +101,16 @@ module _ (whole : Feeding) (text : List ℕ) (taken place size : ℕ) (s : Sessi
   pub input-ended : length input ≤ taken → Ahead whole text taken place (nothing s) out
   unfolding feeding
   input-ended h = rw (drop-of-length-le input h) at a
+
+-- At the end of the input.
+pub finish-none : (room : ℕ) (s : Session) → s .length ≡ 0 → finishing room s ≡ nothing s
+unfolding finishing
+finish-none room s e = rw (eq-eqb (s .length) 0 e) refl
+
+pub finish-line : (room : ℕ) (s : Session) → (s .length ≡ 0 → ⊥) → finishing room s ≡ feeding room s (lineFeed ∷ [])
+unfolding finishing
+finish-line room s n = rw (ne-eqb (s .length) 0 n) refl
+
+-- The notices of an array's items.
+pub notices-length : (count : ℕ) (items : List Item) → length items ≡ 72 → length (noticesOf (take count items)) ≡ 35 * min count 72
+notices-length count items l = ap (λ xs. length (noticesOf xs)) (sym (take-min count 72 items l)) ∙ joined-taken noticeLine 35 length-notice items (min count 72) (omega arith)

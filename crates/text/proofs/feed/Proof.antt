@@ -9,7 +9,7 @@ use lib.Seq.{length-take-le}
 use Rattle.text.specs.Output.{lineOutcome}
 use borrow.Author.Needs.{needs}
 use Rattle.text.specs.Feeding.{feeding}
-use Rattle.text.proofs.Feeding.{session, Ahead, ahead-start, ahead-done, ahead-text, shown-line, kept-within, kept-full, line-ended, line-waits, byte-kept, input-ended}
+use Rattle.text.proofs.Feeding.{session, Ahead, ahead-start, ahead-done, ahead-text, take-min, kept-within, kept-full, line-ended, line-waits, byte-kept, input-ended}
 use Rattle.text.proofs.feed.Statement.{statement}
 use Rattle.text.proofs.feed.Tie as tie
 use Rattle.text.proofs.feed.Reads as reads
@@ -32,7 +32,7 @@ taken-fits c = omega arith
 -- the outcome that a line's end asks for
 line-is : (c : tie.After-answer-line Inv-loop μ-loop) → c .answer-line .result ≡ lineOutcome (c .before .before .before .before .before .before .before .loop .account) (take (c .before .before .before .before .before .before .before .loop .length) (c .before .before .before .before .before .before .before .loop .line))
 line-is c = let long : length (c .before .before .before .before .before .before .before .loop .line) ≡ 31 = c .before .before .before .before .before .before .before .loop .inv .3 in
-    c .answer-line .ensures ∙ ap (lineOutcome (c .before .before .before .before .before .before .before .loop .account)) (ap (λ n. take n (c .before .before .before .before .before .before .before .loop .line)) (c .before .before .shown-length .ensures) ∙ shown-line (c .before .before .before .before .before .before .before .loop .length) (c .before .before .before .before .before .before .before .loop .line) long)
+    c .answer-line .ensures ∙ ap (lineOutcome (c .before .before .before .before .before .before .before .loop .account)) (ap (λ n. take n (c .before .before .before .before .before .before .before .loop .line)) (c .before .before .shown-length .ensures) ∙ take-min (c .before .before .before .before .before .before .before .loop .length) 31 (c .before .before .before .before .before .before .before .loop .line) long)
 
 put-length : (c : tie.After-put-answer Inv-loop μ-loop) → length (c .put-answer .last .1 .0) ≡ length (c .before .before .before .before .before .before .before .before .before .loop .out)
 put-length c = search needs

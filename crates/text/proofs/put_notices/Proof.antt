@@ -1,3 +1,11 @@
+use mathlib.Core.Path.{_≡_, refl, sym, ap, _∙_}
+use Prim.Native.Nat.{_*_}
+use native.Mathlib.Omega.{arith}
+use lib.ListN.{length}
+use borrow.Author.Tests.{le-leb, lt-leb}
+use Rattle.lists.proofs.Pad.{length-of-mapped}
+use Rattle.text.specs.Output.{openNotices}
+use Rattle.text.proofs.Feeding.{notices-length}
 use borrow.Author.Needs.{needs}
 use Rattle.text.proofs.put_notices.Statement.{statement}
 use Rattle.text.proofs.put_notices.Tie as tie
@@ -24,11 +32,15 @@ same-length c = search needs
 
 -- src/lib.rt:125:1
 returns : tie.Need-returns
-returns c = ?
+returns c = let long : length (c .before .before .before .before .before .before .before .before .args .account .ledger .items) ≡ 72 = search (length-of-mapped, needs) in
+    let size = notices-length (c .before .before .before .before .before .before .before .before .args .account .ledger .count) (c .before .before .before .before .before .before .before .before .args .account .ledger .items) long in
+    (ap (λ n. 35 * n) (c .before .before .before .before .before .shown-items .ensures) ∙ sym size, rw (le-leb (length (openNotices (c .before .before .before .before .before .before .before .before .args .account))) (length (c .before .before .before .before .before .before .before .before .args .out .now)) (omega (arith, size, c .before .before .before .before .if1 .taken, c .before .before .before .before .before .shown-items .ensures))) (c .before .before .put-items .ensures))
 
 -- src/lib.rt:125:1
 returns-2 : tie.Need-returns-2
-returns-2 c = ?
+returns-2 c = let long : length (c .before .before .before .before .args .account .ledger .items) ≡ 72 = search (length-of-mapped, needs) in
+    let size = notices-length (c .before .before .before .before .args .account .ledger .count) (c .before .before .before .before .args .account .ledger .items) long in
+    (ap (λ n. 35 * n) (c .before .shown-items .ensures) ∙ sym size, rw (lt-leb (length (openNotices (c .before .before .before .before .args .account))) (length (c .before .before .before .before .args .out .now)) (omega (arith, size, c .if1 .left, c .before .shown-items .ensures))) refl)
 
 pub put-notices-spec : {M : Type 1} → statement M
 put-notices-spec =
