@@ -3,10 +3,10 @@ use mathlib.Core.Path.{_≡_, refl, sym, ap, _∙_}
 use mathlib.Core.Bool.{Bool, true, false}
 use mathlib.Core.List.{List, [], _∷_, _++_}
 use Prim.Native.Nat.{ℕ, zero, suc, _+_, _-_, _*_, min, _≤_, _<_}
-use native.Mathlib.Nat.{zero-add, add-zero, min-eq-left, min-eq-right, le-of-lt}
+use native.Mathlib.Nat.{not-suc-le-zero, zero-add, add-zero, min-eq-left, min-eq-right, le-of-lt}
 use native.Mathlib.Omega.{arith}
 use native.Mathlib.Numerals.{add-one}
-use lib.Dec.{leb}
+use lib.Dec.{eqb, leb}
 use lib.ListN.{length, getD, set, take, drop, length-append, drop-of-length-le}
 use lib.Seq.{drop-cons, take-all}
 use borrow.Author.Tests.{eq-eqb, ne-eqb, lt-ltb, le-ltb, leb-true, leb-false}
@@ -114,3 +114,13 @@ finish-line room s n = rw (ne-eqb (s .length) 0 n) refl
 -- The notices of an array's items.
 pub notices-length : (count : ℕ) (items : List Item) → length items ≡ 72 → length (noticesOf (take count items)) ≡ 35 * min count 72
 notices-length count items l = ap (λ xs. length (noticesOf xs)) (sym (take-min count 72 items l)) ∙ joined-taken noticeLine 35 length-notice items (min count 72) (omega arith)
+
+-- Where there is room for a line, feeding goes on.
+pub taken-some : (room : ℕ) (s : Session) (bytes : List ℕ) → longestAnswer ≤ room → 1 ≤ length bytes → 1 ≤ feeding room s bytes .taken
+unfolding feeding
+taken-some room s [] h k = absurd (not-suc-le-zero k)
+taken-some room s (c ∷ cs) h k = go (eqb c lineFeed) refl
+  where
+    go : (b : Bool) → eqb c lineFeed ≡ b → 1 ≤ feeding room s (c ∷ cs) .taken
+    go true e = rw (e, le-ltb room 117 h) (omega arith)
+    go false e = rw e (omega arith)

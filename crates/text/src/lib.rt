@@ -52,6 +52,7 @@ fn answer_line(account: Account, line: &[u8]) -> Outcome
 pub fn feed(session: Session, input: &[u8], out: &mut [u8]) -> Fed
     ensures { λ r. ⌜ r ≡ fedOf (feeding (length (now (out .entry))) session (now (input .entry))) ⌝ }
     ensures { λ _. ⌜ now (out .exit) ≡ written (now (out .entry)) 0 (feeding (length (now (out .entry))) session (now (input .entry)) .output) ⌝ }
+    ensures { λ r. ⌜ (r .taken ≤ length (now (input .entry))) × (r .written ≤ length (now (out .entry))) ⌝ }
 {
     let mut account = session.account;
     let mut length = session.length;
@@ -109,6 +110,7 @@ fn shown_length(length: usize) -> usize
 pub fn finish(session: Session, out: &mut [u8]) -> Fed
     ensures { λ r. ⌜ r ≡ fedOf (finishing (length (now (out .entry))) session) ⌝ }
     ensures { λ _. ⌜ now (out .exit) ≡ written (now (out .entry)) 0 (finishing (length (now (out .entry))) session .output) ⌝ }
+    ensures { λ r. ⌜ r .written ≤ length (now (out .entry)) ⌝ }
 {
     if session.length == 0 {
         return Fed {

@@ -55,7 +55,7 @@ same-length c = c .before .before .before .before .loop .inv .2
 
 -- src/lib.rt:63:17
 returns : tie.Need-returns Inv-loop μ-loop
-returns c = (ahead-done (feeding (length (c .before .before .before .before .before .before .before .before .before .args .out .now)) (c .before .before .before .before .before .before .before .before .before .args .session) (c .before .before .before .before .before .before .before .before .before .args .input .now)) (c .before .before .before .before .before .before .before .before .before .args .out .now) (c .before .before .before .before .loop .taken) (c .before .before .before .before .loop .written) (session (c .before .before .before .before .loop .account) (c .before .before .before .before .loop .length) (c .before .before .before .before .loop .line)) (c .before .before .before .before .loop .out) (line-waits (feeding (length (c .before .before .before .before .before .before .before .before .before .args .out .now)) (c .before .before .before .before .before .before .before .before .before .args .session) (c .before .before .before .before .before .before .before .before .before .args .input .now)) (c .before .before .before .before .before .before .before .before .before .args .out .now) (c .before .before .before .before .loop .taken) (c .before .before .before .before .loop .written) (length (c .before .before .before .before .before .before .before .before .before .args .out .now)) (session (c .before .before .before .before .loop .account) (c .before .before .before .before .loop .length) (c .before .before .before .before .loop .line)) (c .before .before .before .before .before .before .before .before .before .args .input .now) (c .before .before .before .before .loop .out) (c .before .before .before .before .loop .inv .4) (omega arith) (c .before .if1 .taken) (omega (arith, c .if2 .taken))), ahead-text (feeding (length (c .before .before .before .before .before .before .before .before .before .args .out .now)) (c .before .before .before .before .before .before .before .before .before .args .session) (c .before .before .before .before .before .before .before .before .before .args .input .now)) (c .before .before .before .before .before .before .before .before .before .args .out .now) (c .before .before .before .before .loop .taken) (c .before .before .before .before .loop .written) (session (c .before .before .before .before .loop .account) (c .before .before .before .before .loop .length) (c .before .before .before .before .loop .line)) (c .before .before .before .before .loop .out) (line-waits (feeding (length (c .before .before .before .before .before .before .before .before .before .args .out .now)) (c .before .before .before .before .before .before .before .before .before .args .session) (c .before .before .before .before .before .before .before .before .before .args .input .now)) (c .before .before .before .before .before .before .before .before .before .args .out .now) (c .before .before .before .before .loop .taken) (c .before .before .before .before .loop .written) (length (c .before .before .before .before .before .before .before .before .before .args .out .now)) (session (c .before .before .before .before .loop .account) (c .before .before .before .before .loop .length) (c .before .before .before .before .loop .line)) (c .before .before .before .before .before .before .before .before .before .args .input .now) (c .before .before .before .before .loop .out) (c .before .before .before .before .loop .inv .4) (omega arith) (c .before .if1 .taken) (omega (arith, c .if2 .taken))))
+returns c = (ahead-done (feeding (length (c .before .before .before .before .before .before .before .before .before .args .out .now)) (c .before .before .before .before .before .before .before .before .before .args .session) (c .before .before .before .before .before .before .before .before .before .args .input .now)) (c .before .before .before .before .before .before .before .before .before .args .out .now) (c .before .before .before .before .loop .taken) (c .before .before .before .before .loop .written) (session (c .before .before .before .before .loop .account) (c .before .before .before .before .loop .length) (c .before .before .before .before .loop .line)) (c .before .before .before .before .loop .out) (line-waits (feeding (length (c .before .before .before .before .before .before .before .before .before .args .out .now)) (c .before .before .before .before .before .before .before .before .before .args .session) (c .before .before .before .before .before .before .before .before .before .args .input .now)) (c .before .before .before .before .before .before .before .before .before .args .out .now) (c .before .before .before .before .loop .taken) (c .before .before .before .before .loop .written) (length (c .before .before .before .before .before .before .before .before .before .args .out .now)) (session (c .before .before .before .before .loop .account) (c .before .before .before .before .loop .length) (c .before .before .before .before .loop .line)) (c .before .before .before .before .before .before .before .before .before .args .input .now) (c .before .before .before .before .loop .out) (c .before .before .before .before .loop .inv .4) (omega arith) (c .before .if1 .taken) (omega (arith, c .if2 .taken))), (ahead-text (feeding (length (c .before .before .before .before .before .before .before .before .before .args .out .now)) (c .before .before .before .before .before .before .before .before .before .args .session) (c .before .before .before .before .before .before .before .before .before .args .input .now)) (c .before .before .before .before .before .before .before .before .before .args .out .now) (c .before .before .before .before .loop .taken) (c .before .before .before .before .loop .written) (session (c .before .before .before .before .loop .account) (c .before .before .before .before .loop .length) (c .before .before .before .before .loop .line)) (c .before .before .before .before .loop .out) (line-waits (feeding (length (c .before .before .before .before .before .before .before .before .before .args .out .now)) (c .before .before .before .before .before .before .before .before .before .args .session) (c .before .before .before .before .before .before .before .before .before .args .input .now)) (c .before .before .before .before .before .before .before .before .before .args .out .now) (c .before .before .before .before .loop .taken) (c .before .before .before .before .loop .written) (length (c .before .before .before .before .before .before .before .before .before .args .out .now)) (session (c .before .before .before .before .loop .account) (c .before .before .before .before .loop .length) (c .before .before .before .before .loop .line)) (c .before .before .before .before .before .before .before .before .before .args .input .now) (c .before .before .before .before .loop .out) (c .before .before .before .before .loop .inv .4) (omega arith) (c .before .if1 .taken) (omega (arith, c .if2 .taken))), (omega arith, omega arith)))
 
 -- src/lib.rt:73:17
 shown-length-requires : tie.Need-shown-length-requires Inv-loop μ-loop
@@ -143,7 +143,7 @@ same-length-2 c = c .before .loop .inv .2
 
 -- src/lib.rt:50:1
 returns-2 : tie.Need-returns-2 Inv-loop μ-loop
-returns-2 c = (ahead-done (feeding (length (c .before .before .before .before .before .before .args .out .now)) (c .before .before .before .before .before .before .args .session) (c .before .before .before .before .before .before .args .input .now)) (c .before .before .before .before .before .before .args .out .now) (c .before .loop .taken) (c .before .loop .written) (session (c .before .loop .account) (c .before .loop .length) (c .before .loop .line)) (c .before .loop .out) (input-ended (feeding (length (c .before .before .before .before .before .before .args .out .now)) (c .before .before .before .before .before .before .args .session) (c .before .before .before .before .before .before .args .input .now)) (c .before .before .before .before .before .before .args .out .now) (c .before .loop .taken) (c .before .loop .written) (length (c .before .before .before .before .before .before .args .out .now)) (session (c .before .loop .account) (c .before .loop .length) (c .before .loop .line)) (c .before .before .before .before .before .before .args .input .now) (c .before .loop .out) (c .before .loop .inv .4) (omega arith)), ahead-text (feeding (length (c .before .before .before .before .before .before .args .out .now)) (c .before .before .before .before .before .before .args .session) (c .before .before .before .before .before .before .args .input .now)) (c .before .before .before .before .before .before .args .out .now) (c .before .loop .taken) (c .before .loop .written) (session (c .before .loop .account) (c .before .loop .length) (c .before .loop .line)) (c .before .loop .out) (input-ended (feeding (length (c .before .before .before .before .before .before .args .out .now)) (c .before .before .before .before .before .before .args .session) (c .before .before .before .before .before .before .args .input .now)) (c .before .before .before .before .before .before .args .out .now) (c .before .loop .taken) (c .before .loop .written) (length (c .before .before .before .before .before .before .args .out .now)) (session (c .before .loop .account) (c .before .loop .length) (c .before .loop .line)) (c .before .before .before .before .before .before .args .input .now) (c .before .loop .out) (c .before .loop .inv .4) (omega arith)))
+returns-2 c = (ahead-done (feeding (length (c .before .before .before .before .before .before .args .out .now)) (c .before .before .before .before .before .before .args .session) (c .before .before .before .before .before .before .args .input .now)) (c .before .before .before .before .before .before .args .out .now) (c .before .loop .taken) (c .before .loop .written) (session (c .before .loop .account) (c .before .loop .length) (c .before .loop .line)) (c .before .loop .out) (input-ended (feeding (length (c .before .before .before .before .before .before .args .out .now)) (c .before .before .before .before .before .before .args .session) (c .before .before .before .before .before .before .args .input .now)) (c .before .before .before .before .before .before .args .out .now) (c .before .loop .taken) (c .before .loop .written) (length (c .before .before .before .before .before .before .args .out .now)) (session (c .before .loop .account) (c .before .loop .length) (c .before .loop .line)) (c .before .before .before .before .before .before .args .input .now) (c .before .loop .out) (c .before .loop .inv .4) (omega arith)), (ahead-text (feeding (length (c .before .before .before .before .before .before .args .out .now)) (c .before .before .before .before .before .before .args .session) (c .before .before .before .before .before .before .args .input .now)) (c .before .before .before .before .before .before .args .out .now) (c .before .loop .taken) (c .before .loop .written) (session (c .before .loop .account) (c .before .loop .length) (c .before .loop .line)) (c .before .loop .out) (input-ended (feeding (length (c .before .before .before .before .before .before .args .out .now)) (c .before .before .before .before .before .before .args .session) (c .before .before .before .before .before .before .args .input .now)) (c .before .before .before .before .before .before .args .out .now) (c .before .loop .taken) (c .before .loop .written) (length (c .before .before .before .before .before .before .args .out .now)) (session (c .before .loop .account) (c .before .loop .length) (c .before .loop .line)) (c .before .before .before .before .before .before .args .input .now) (c .before .loop .out) (c .before .loop .inv .4) (omega arith)), (omega arith, omega arith)))
 
 pub feed-spec : {M : Type 1} → statement M
 feed-spec =

@@ -1,3 +1,4 @@
+use native.Mathlib.Omega.{arith}
 use lib.ListN.{length}
 use mathlib.Core.Path.{refl}
 use Rattle.text.proofs.Feeding.{finish-none, finish-line}
@@ -10,7 +11,7 @@ use Rattle.text.proofs.feed.Reads as feed-reads
 
 -- src/lib.rt:114:9
 returns : tie.Need-returns
-returns c = rw (finish-none (length (c .before .before .before .args .out .now)) (c .before .before .before .args .session) (c .if1 .taken)) (refl, refl)
+returns c = rw (finish-none (length (c .before .before .before .args .out .now)) (c .before .before .before .args .session) (c .if1 .taken)) (refl, (refl, omega arith))
 
 -- src/lib.rt:121:19
 slice-aggregate-feed : tie.Need-slice-aggregate-feed
@@ -26,7 +27,7 @@ same-length c = search needs
 
 -- src/lib.rt:109:1
 returns-2 : tie.Need-returns-2
-returns-2 c = rw (finish-line (length (c .before .before .before .before .before .before .before .before .args .out .now)) (c .before .before .before .before .before .before .before .before .args .session) (c .before .before .before .before .before .if1 .left)) (c .before .before .feed .ensures)
+returns-2 c = rw (finish-line (length (c .before .before .before .before .before .before .before .before .args .out .now)) (c .before .before .before .before .before .before .before .before .args .session) (c .before .before .before .before .before .if1 .left)) (c .before .before .feed .ensures .0, (c .before .before .feed .ensures .1 .0, c .before .before .feed .ensures .1 .1 .1))
 
 pub finish-spec : {M : Type 1} → statement M
 finish-spec = tie.close (tie.spec returns slice-aggregate-feed feed-requires same-length returns-2)

@@ -1,0 +1,47 @@
+use mathlib.Core.Path.{_≡_, sym}
+use native.Mathlib.Omega.{arith}
+use lib.ListN.{length}
+use lib.Seq.{length-take-le}
+use borrow.Author.Needs.{needs}
+use Rattle.driver.proofs.end_input.Statement.{statement}
+use Rattle.driver.proofs.end_input.Tie as tie
+use Rattle.driver.proofs.end_input.Reads as reads
+use Rattle.driver.proofs.end_input.Lts as lts
+use Rattle.driver.proofs.print.Reads as print-reads
+use Rattle.text.proofs.finish.Reads as finish-reads
+
+-- src/lib.rt:50:37
+slice-aggregate-finish : tie.Need-slice-aggregate-finish
+slice-aggregate-finish c = search needs
+
+-- src/lib.rt:50:9
+finish-requires : tie.Need-finish-requires
+finish-requires c κs = search needs
+
+-- src/lib.rt:52:26
+array-share-prefix-out : tie.Need-array-share-prefix-out
+array-share-prefix-out c = search needs
+
+-- src/lib.rt:52:26
+slice-aggregate-print : tie.Need-slice-aggregate-print
+slice-aggregate-print c = let long : length (c .before .before .finish .last .1 .0) ≡ 117 = search needs in
+    sym (length-take-le (c .before .before .finish .result .written) (c .before .before .finish .last .1 .0) (omega (arith, c .before .before .finish .ensures .1 .1)))
+
+-- src/lib.rt:52:9
+print-requires : tie.Need-print-requires
+print-requires c κs = search needs
+
+-- src/lib.rt:48:1
+returns : tie.Need-returns
+returns c = search needs
+
+pub end-input-spec : {M : Type 1} → statement M
+end-input-spec =
+    tie.close
+    (tie.spec
+    slice-aggregate-finish
+    finish-requires
+    array-share-prefix-out
+    slice-aggregate-print
+    print-requires
+    returns)

@@ -1,0 +1,123 @@
+use mathlib.Core.Path.{_≡_, refl, sym, ap, _∙_}
+use Prim.Native.Nat.{ℕ, _-_, _≤_}
+use native.Mathlib.Omega.{arith}
+use mathlib.Core.List.{List}
+use lib.ListN.{length, take, drop, length-drop}
+use Rattle.text.specs.declared.Fed.{Fed}
+use Rattle.text.proofs.Feeding.{taken-some}
+use lib.Seq.{length-take-le}
+use borrow.Author.Needs.{needs}
+use Rattle.driver.proofs.feed_block.Statement.{statement}
+use Rattle.driver.proofs.feed_block.Tie as tie
+use Rattle.driver.proofs.feed_block.Reads as reads
+use Rattle.driver.proofs.feed_block.Lts as lts
+use Rattle.driver.proofs.print.Reads as print-reads
+use Rattle.io.proofs.large_buffer.Reads as large-buffer-reads
+use Rattle.text.proofs.feed.Reads as feed-reads
+
+abbrev Inv-loop : tie.InvT-loop
+Inv-loop block is-printing session₀ out₀ at₀ session out at = (at ≤ length block) × (length out ≡ 65536)
+
+abbrev μ-loop : tie.MeasureT-loop
+μ-loop block is-printing session₀ out₀ at₀ session out at = length block - at
+
+out-length : (c : tie.After-feed Inv-loop μ-loop) → length (c .feed .last .1 .1 .0) ≡ 65536
+out-length c = search needs
+
+-- the rest of the block
+abbrev part : tie.After-feed Inv-loop μ-loop → List ℕ
+part c = take (length (c .before .before .before .before .before .before .before .args .block .now) - c .before .before .before .before .loop .at) (drop (c .before .before .before .before .loop .at) (c .before .before .before .before .before .before .before .args .block .now))
+
+part-long : (c : tie.After-feed Inv-loop μ-loop) → length (part c) ≡ length (c .before .before .before .before .before .before .before .args .block .now) - c .before .before .before .before .loop .at
+part-long c = let rest = length-drop (c .before .before .before .before .loop .at) (c .before .before .before .before .before .before .before .args .block .now) in
+    length-take-le (length (c .before .before .before .before .before .before .before .args .block .now) - c .before .before .before .before .loop .at) (drop (c .before .before .before .before .loop .at) (c .before .before .before .before .before .before .before .args .block .now)) (omega (arith, rest))
+
+-- no more was taken than the rest of the block, and no more written than there was room for
+fed-bounds : (c : tie.After-feed Inv-loop μ-loop) → (c .feed .result .taken ≤ length (c .before .before .before .before .before .before .before .args .block .now) - c .before .before .before .before .loop .at) × (c .feed .result .written ≤ 65536)
+fed-bounds c = (rw (← part-long c) (c .feed .ensures .1 .1 .0), rw (← c .before .before .before .before .loop .inv .1) (c .feed .ensures .1 .1 .1))
+
+-- some byte was taken
+fed-some : (c : tie.After-feed Inv-loop μ-loop) → 1 ≤ c .feed .result .taken
+fed-some c = rw (ap (λ (f : Fed). f .taken) (c .feed .ensures .0)) (taken-some (length (c .before .before .before .before .loop .out)) (c .before .before .before .before .loop .session) (part c) (rw (c .before .before .before .before .loop .inv .1) (omega arith)) (rw (part-long c) (omega arith)))
+
+-- src/lib.rt:27:19
+large-buffer-requires : tie.Need-large-buffer-requires Inv-loop μ-loop
+large-buffer-requires c κs = tt
+
+-- src/lib.rt:29:5
+loop-holds : tie.Need-loop-holds Inv-loop μ-loop
+loop-holds c = (omega arith, sym (c .large-buffer .ensures))
+
+-- src/lib.rt:30:39
+sub-feed : tie.Need-sub-feed Inv-loop μ-loop
+sub-feed c = omega arith
+
+-- src/lib.rt:30:39
+part-feed-start : tie.Need-part-feed-start Inv-loop μ-loop
+part-feed-start c = omega arith
+
+-- src/lib.rt:30:39
+part-feed-end : tie.Need-part-feed-end Inv-loop μ-loop
+part-feed-end c = omega arith
+
+-- src/lib.rt:30:53
+slice-aggregate-feed : tie.Need-slice-aggregate-feed Inv-loop μ-loop
+slice-aggregate-feed c = sym (c .before .before .before .loop .inv .1)
+
+-- src/lib.rt:30:13
+feed-requires : tie.Need-feed-requires Inv-loop μ-loop
+feed-requires c κs = tt
+
+-- src/lib.rt:33:9
+add-at : tie.Need-add-at Inv-loop μ-loop
+add-at c = omega (arith, fed-bounds (c .before .before .before))
+
+-- src/lib.rt:34:19
+array-share-prefix-out : tie.Need-array-share-prefix-out Inv-loop μ-loop
+array-share-prefix-out c = rw (out-length (c .before .before .before)) (omega (arith, fed-bounds (c .before .before .before)))
+
+-- src/lib.rt:34:19
+slice-aggregate-print : tie.Need-slice-aggregate-print Inv-loop μ-loop
+slice-aggregate-print c = sym (length-take-le (c .before .before .before .before .feed .result .written) (c .before .before .before .before .feed .last .1 .1 .0) (rw (out-length (c .before .before .before .before)) (omega (arith, fed-bounds (c .before .before .before .before)))))
+
+-- src/lib.rt:34:13
+print-requires : tie.Need-print-requires Inv-loop μ-loop
+print-requires c κs = tt
+
+-- src/lib.rt:35:13
+returns : tie.Need-returns Inv-loop μ-loop
+returns c = tt
+
+-- src/lib.rt:29:5
+loop-less : tie.Need-loop-less Inv-loop μ-loop
+loop-less c = omega (arith, fed-bounds (c .before .before .before .before .before .before), fed-some (c .before .before .before .before .before .before))
+
+-- src/lib.rt:29:5
+loop-again : tie.Need-loop-again Inv-loop μ-loop
+loop-again c = (omega (arith, fed-bounds (c .before .before .before .before .before .before)), out-length (c .before .before .before .before .before .before))
+
+-- src/lib.rt:25:1
+returns-2 : tie.Need-returns-2 Inv-loop μ-loop
+returns-2 c = tt
+
+pub feed-block-spec : {M : Type 1} → statement M
+feed-block-spec =
+    tie.close
+    (tie.spec
+    Inv-loop
+    μ-loop
+    large-buffer-requires
+    loop-holds
+    sub-feed
+    part-feed-start
+    part-feed-end
+    slice-aggregate-feed
+    feed-requires
+    add-at
+    array-share-prefix-out
+    slice-aggregate-print
+    print-requires
+    returns
+    loop-less
+    loop-again
+    returns-2)

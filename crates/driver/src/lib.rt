@@ -1,0 +1,87 @@
+// Reads standard input to its end and feeds it to the account, in blocks of 64 KiB.
+use libc::STDIN_FILENO;
+use libc::STDOUT_FILENO;
+use text::Session;
+
+// Where a run stands: sound until a read or a write fails.
+pub struct Run {
+    pub session: Session,
+    pub is_sound: bool,
+}
+
+// Writes what is to be printed, and says where that fails.
+fn print(text: &[u8], is_printing: bool) -> bool {
+    if !is_printing {
+        return true;
+    }
+    let is_written = io::write_all(STDOUT_FILENO, text);
+    if !is_written {
+        os::fail(b"standard output");
+    }
+    is_written
+}
+
+// Feeds a block from its start to its end.
+fn feed_block(session: Session, block: &[u8], is_printing: bool) -> Run {
+    let mut session = session;
+    let mut out = io::large_buffer();
+    let mut at: usize = 0;
+    while at < block.len() {
+        let fed = text::feed(session, &block[at..], &mut out);
+        let written = fed.written;
+        session = fed.session;
+        at += fed.taken;
+        if !print(&out[..written], is_printing) {
+            return Run {
+                session,
+                is_sound: false,
+            };
+        }
+    }
+    Run {
+        session,
+        is_sound: true,
+    }
+}
+
+// The end of the input.
+fn end_input(session: Session, is_printing: bool) -> Run {
+    let mut out = [0u8; 117];
+    let fed = text::finish(session, &mut out);
+    let written = fed.written;
+    let is_sound = print(&out[..written], is_printing);
+    let session = fed.session;
+    Run { session, is_sound }
+}
+
+// Feeds all of standard input. What a failed read leaves half read is not taken for a line.
+pub fn feed_input(is_printing: bool) -> Run {
+    let mut session = Session::new();
+    let mut block = io::large_buffer();
+    // a proved loop has to end, and nothing says that the input does: no run uses up these turns
+    let mut turns = u64::MAX;
+    while turns > 0 {
+        turns -= 1;
+        let got = libc::read(STDIN_FILENO, &mut block);
+        if got < 0 {
+            os::fail(b"standard input");
+            return Run {
+                session,
+                is_sound: false,
+            };
+        }
+        if got == 0 {
+            return end_input(session, is_printing);
+        }
+        let count = io::count(got, &block);
+        let fed = feed_block(session, &block[..count], is_printing);
+        if !fed.is_sound {
+            return fed;
+        }
+        session = fed.session;
+    }
+    Run {
+        session,
+        is_sound: false,
+    }
+}
