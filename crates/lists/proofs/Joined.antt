@@ -10,6 +10,10 @@ use lib.Seq.{take-suc, length-take-le}
 use Rattle.lists.specs.Joined.{joined}
 
 module _ {A : Type 0} (text : A → List ℕ) where
+  pub joined-behind : (xs ys : List A) → joined text (xs ++ ys) ≡ joined text xs ++ joined text ys
+  joined-behind [] ys = refl
+  joined-behind (x ∷ xs) ys = ap (λ r. text x ++ r) (joined-behind xs ys) ∙ sym (append-assoc (text x) (joined text xs) (joined text ys))
+
   -- one element more
   pub joined-more : (xs : List A) (x : A) → joined text (xs ++ (x ∷ [])) ≡ joined text xs ++ text x
   joined-more [] x = append-nil (text x)

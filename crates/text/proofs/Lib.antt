@@ -1,2 +1,5 @@
 -- Laws of lines and pieces.
 pub mod Feeding
+pub mod Lines
+pub mod Pieces
+pub mod Sums

@@ -7,6 +7,7 @@ use lib.ListN.{length, take}
 use Rattle.lists.specs.Joined.{joined}
 use Rattle.ledger.specs.declared.Item.{Item}
 use Rattle.account.specs.declared.Account.{Account}
+use Rattle.account.specs.declared.Answer.{Answer}
 use Rattle.account.specs.declared.Call.{Call}
 use Rattle.account.specs.declared.Outcome.{Outcome}
 use Rattle.account.specs.Calls.{newAccount}
@@ -27,10 +28,10 @@ parsedOutcome a NotAFrame = declined a 40
 abbrev pub lineOutcome : Account → List ℕ → Outcome
 lineOutcome a line = parsedOutcome a (parsed line)
 
--- One frame a line, each on the account that the line before left.
-unfoldable pub billed : Account → List (List ℕ) → List ℕ
-billed a [] = []
-billed a (line ∷ lines) = answerLine (lineOutcome a line .answer) ++ billed (lineOutcome a line .account) lines
+-- Each line on the account that the line before left.
+unfoldable pub answersOf : Account → List (List ℕ) → List Answer
+answersOf a [] = []
+answersOf a (line ∷ lines) = lineOutcome a line .answer ∷ answersOf (lineOutcome a line .account) lines
 
 unfoldable pub accountAfter : Account → List (List ℕ) → Account
 accountAfter a [] = a
@@ -43,9 +44,9 @@ noticesOf items = joined noticeLine items
 abbrev pub openNotices : Account → List ℕ
 openNotices a = noticesOf (take (a .ledger .count) (a .ledger .items))
 
--- The programs: input bytes to output bytes.
+-- The programs: input bytes to output bytes. Program `bill` writes one frame a line.
 unfoldable pub bill : List ℕ → List ℕ
-bill input = billed newAccount (linesOf input)
+bill input = joined answerLine (answersOf newAccount (linesOf input))
 
 unfoldable pub notice : List ℕ → List ℕ
 notice input = openNotices (accountAfter newAccount (linesOf input))

@@ -1,0 +1,501 @@
+// Number 41: accounts with one field made wrong, and whole ones beside them. Document 01, "The account and its calls".
+//
+// A line has the number of a call, the number of a payment on the account that it handed back, and what was handed in.
+// The call is a payment of 1 yen on day 100 where nothing else is named.
+use account::Account;
+use account::Outcome;
+use account::Status;
+use ledger::Item;
+use ledger::Kind;
+use ledger::Ledger;
+use libc::STDOUT_FILENO;
+use meter::Estimate;
+use meter::Estimates;
+use tariff::Fuel;
+
+const FUEL: Fuel = Fuel {
+    lng: 83_130,
+    propane: 75_000,
+};
+
+// A missed period of 30 days and 30 m3.
+const MISSED: Estimate = Estimate {
+    absent: false,
+    days: 30,
+    fuel: FUEL,
+    volume: 30,
+    charged: 6_650,
+};
+
+// Its price, with 1,000 yen paid.
+const OPEN: Item = Item {
+    amount: 6_650,
+    unpaid: 5_650,
+    obligation: 59,
+    due: 89,
+    kind: Kind::Price,
+};
+
+const INTEREST: Item = Item {
+    amount: 13,
+    unpaid: 13,
+    obligation: 100,
+    due: 130,
+    kind: Kind::Interest,
+};
+
+fn text(line: &[u8]) {
+    io::write_all(STDOUT_FILENO, line);
+}
+
+fn number(n: u8) {
+    io::print_decimal(STDOUT_FILENO, n as u64);
+    text(b" ");
+}
+
+fn line(outcome: Outcome, name: &[u8]) {
+    let back = outcome.account;
+    let again = back.pay(100, 1);
+    number(outcome.answer.number);
+    number(again.answer.number);
+    text(name);
+    text(b"\n");
+}
+
+fn show(account: Account, name: &[u8]) {
+    line(account.pay(100, 1), name);
+}
+
+// Two estimates stand.
+fn estimates(second: Estimate) -> Estimates {
+    let mut periods = [MISSED; 6];
+    periods[1] = second;
+    Estimates {
+        count: 2,
+        periods: periods,
+    }
+}
+
+// Two items are open.
+fn ledger(second: Item) -> Ledger {
+    let mut items = [OPEN; 72];
+    items[1] = second;
+    Ledger {
+        count: 2,
+        items: items,
+        held: 5,
+        credit: 0,
+    }
+}
+
+// A supplied account with two estimates, two items and interest held.
+fn supplied() -> Account {
+    let estimates = estimates(MISSED);
+    let ledger = ledger(INTEREST);
+    Account {
+        status: Status::Supplied { start: 90 },
+        latest: 100,
+        digits: 4,
+        dial: 130,
+        pool: 10,
+        previous: 30,
+        estimates: estimates,
+        ledger: ledger,
+    }
+}
+
+fn with_status(status: Status) -> Account {
+    let account = supplied();
+    Account {
+        status: status,
+        ..account
+    }
+}
+
+fn with_latest(latest: u16) -> Account {
+    let account = supplied();
+    Account {
+        latest: latest,
+        ..account
+    }
+}
+
+fn with_dial(digits: u8, dial: u32) -> Account {
+    let account = supplied();
+    Account {
+        digits: digits,
+        dial: dial,
+        ..account
+    }
+}
+
+fn with_pool(pool: u32) -> Account {
+    let account = supplied();
+    Account {
+        pool: pool,
+        ..account
+    }
+}
+
+fn with_previous(previous: u32) -> Account {
+    let account = supplied();
+    Account {
+        previous: previous,
+        ..account
+    }
+}
+
+fn with_estimates(estimates: Estimates) -> Account {
+    let account = supplied();
+    Account {
+        estimates: estimates,
+        ..account
+    }
+}
+
+// The second estimate is as given.
+fn with_estimate(second: Estimate) -> Account {
+    with_estimates(estimates(second))
+}
+
+fn with_days(days: u16) -> Account {
+    with_estimate(Estimate {
+        days: days,
+        ..MISSED
+    })
+}
+
+fn with_fuel(lng: u32, propane: u32) -> Account {
+    with_estimate(Estimate {
+        fuel: Fuel {
+            lng: lng,
+            propane: propane,
+        },
+        ..MISSED
+    })
+}
+
+fn with_volume(volume: u32) -> Account {
+    with_estimate(Estimate {
+        volume: volume,
+        ..MISSED
+    })
+}
+
+fn with_charge(charged: u32) -> Account {
+    with_estimate(Estimate {
+        charged: charged,
+        ..MISSED
+    })
+}
+
+fn with_ledger(ledger: Ledger) -> Account {
+    let account = supplied();
+    Account {
+        ledger: ledger,
+        ..account
+    }
+}
+
+// The second item is as given.
+fn with_item(second: Item) -> Account {
+    with_ledger(ledger(second))
+}
+
+fn with_price(amount: u64, unpaid: u64) -> Account {
+    with_item(Item {
+        amount: amount,
+        unpaid: unpaid,
+        ..OPEN
+    })
+}
+
+fn with_interest(amount: u64) -> Account {
+    with_item(Item {
+        amount: amount,
+        ..INTEREST
+    })
+}
+
+fn with_item_days(obligation: u16, due: u16) -> Account {
+    with_item(Item {
+        obligation: obligation,
+        due: due,
+        ..OPEN
+    })
+}
+
+fn with_held(status: Status, held: u64) -> Account {
+    let mut ledger = ledger(INTEREST);
+    ledger.held = held;
+    let account = supplied();
+    Account {
+        status: status,
+        ledger: ledger,
+        ..account
+    }
+}
+
+fn with_credit(count: usize, credit: u64) -> Account {
+    with_ledger(Ledger {
+        count: count,
+        items: [OPEN; 72],
+        held: 0,
+        credit: credit,
+    })
+}
+
+fn statuses() {
+    show(Account::new(), b"new");
+    show(supplied(), b"supplied");
+    show(with_status(Status::Stopped { stop: 90 }), b"stopped");
+    show(with_held(Status::Cancelled, 0), b"cancelled");
+    show(with_held(Status::Cancelled, 1), b"cancelled, 1 held");
+    show(
+        with_status(Status::Supplied { start: 101 }),
+        b"period start 101, latest day 100",
+    );
+    show(
+        with_status(Status::Supplied { start: 102 }),
+        b"period start 102, latest day 100",
+    );
+    show(
+        with_status(Status::Stopped { stop: 100 }),
+        b"stop day 100, latest day 100",
+    );
+    show(
+        with_status(Status::Stopped { stop: 101 }),
+        b"stop day 101, latest day 100",
+    );
+}
+
+fn meters() {
+    show(with_latest(36_494), b"latest day 36494");
+    show(with_latest(36_495), b"latest day 36495");
+    show(with_dial(0, 0), b"0 digits");
+    show(with_dial(3, 130), b"3 digits");
+    show(with_dial(5, 130), b"5 digits");
+    show(with_dial(6, 130), b"6 digits");
+    show(with_dial(4, 9_999), b"dial 9999 of 4 digits");
+    show(with_dial(4, 10_000), b"dial 10000 of 4 digits");
+    show(with_dial(5, 99_999), b"dial 99999 of 5 digits");
+    show(with_dial(5, 100_000), b"dial 100000 of 5 digits");
+    show(with_pool(99_999), b"pool 99999");
+    show(with_pool(100_000), b"pool 100000");
+    show(with_previous(99_999), b"previous volume 99999");
+    show(with_previous(100_000), b"previous volume 100000");
+}
+
+fn estimate_days() {
+    show(with_days(0), b"estimate of 0 days");
+    show(with_days(1), b"estimate of 1 day");
+    show(with_days(36_495), b"estimate of 36495 days");
+    show(with_days(36_496), b"estimate of 36496 days");
+}
+
+fn estimate_fuels() {
+    show(with_fuel(300_000, 300_000), b"estimate at fuel 300000");
+    show(with_fuel(300_010, 75_000), b"estimate at LNG 300010");
+    show(with_fuel(15, 75_000), b"estimate at LNG 15");
+    show(with_fuel(83_130, 300_010), b"estimate at propane 300010");
+    show(with_fuel(83_130, 15), b"estimate at propane 15");
+}
+
+fn estimate_amounts() {
+    show(with_volume(99_999), b"estimate of 99999 m3");
+    show(with_volume(100_000), b"estimate of 100000 m3");
+    show(with_charge(100_000_000), b"estimate charged 100000000");
+    show(with_charge(100_000_001), b"estimate charged 100000001");
+}
+
+// The third place holds an estimate of 0 days.
+fn counted_estimates(count: usize) -> Account {
+    let mut periods = [MISSED; 6];
+    periods[2] = Estimate { days: 0, ..MISSED };
+    with_estimates(Estimates {
+        count: count,
+        periods: periods,
+    })
+}
+
+fn many_estimates(count: usize) -> Account {
+    with_estimates(Estimates {
+        count: count,
+        periods: [MISSED; 6],
+    })
+}
+
+fn estimate_counts() {
+    show(many_estimates(6), b"6 estimates");
+    show(many_estimates(7), b"7 estimates");
+    show(
+        counted_estimates(2),
+        b"2 estimates, wrong in the third place",
+    );
+    show(
+        counted_estimates(3),
+        b"3 estimates, wrong in the third place",
+    );
+}
+
+fn item_amounts() {
+    show(with_price(6_650, 0), b"item with 0 unpaid");
+    show(with_price(6_650, 1), b"item with 1 unpaid");
+    show(with_price(6_650, 6_650), b"item of 6650 with 6650 unpaid");
+    show(with_price(6_650, 6_651), b"item of 6650 with 6651 unpaid");
+    show(with_price(1_000_000_000, 1), b"price item of 1000000000");
+    show(with_price(1_000_000_001, 1), b"price item of 1000000001");
+    show(
+        with_interest(1_000_000_000_000),
+        b"interest item of 1000000000000",
+    );
+    show(
+        with_interest(1_000_000_000_001),
+        b"interest item of 1000000000001",
+    );
+}
+
+fn item_days() {
+    show(
+        with_item_days(100, 130),
+        b"obligation day 100, latest day 100",
+    );
+    show(
+        with_item_days(101, 131),
+        b"obligation day 101, latest day 100",
+    );
+    show(with_item_days(59, 36_524), b"due day 36524");
+    show(with_item_days(59, 36_525), b"due day 36525");
+}
+
+// The 72nd place holds an item with 0 unpaid.
+fn counted_items(count: usize) -> Account {
+    let mut items = [OPEN; 72];
+    items[71] = Item { unpaid: 0, ..OPEN };
+    with_ledger(Ledger {
+        count: count,
+        items: items,
+        held: 0,
+        credit: 0,
+    })
+}
+
+fn item_counts() {
+    show(with_credit(72, 0), b"72 items");
+    show(with_credit(73, 0), b"73 items");
+    show(counted_items(71), b"71 items, wrong in the 72nd place");
+    show(counted_items(72), b"72 items, wrong in the 72nd place");
+}
+
+fn balances() {
+    let period = Status::Supplied { start: 90 };
+    show(with_held(period, 1_000_000_000_000), b"1000000000000 held");
+    show(with_held(period, 1_000_000_000_001), b"1000000000001 held");
+    show(with_credit(0, 1), b"credit 1, no item open");
+    show(with_credit(1, 1), b"credit 1, an item open");
+    show(with_credit(0, 999_999_999), b"credit 999999999");
+    show(with_credit(0, 1_000_000_000), b"credit 1000000000");
+}
+
+fn new_meters() {
+    let account = Account::new();
+    show(
+        Account {
+            latest: 1,
+            ..account
+        },
+        b"new, latest day 1",
+    );
+    show(
+        Account {
+            digits: 4,
+            ..account
+        },
+        b"new, 4 digits",
+    );
+    show(Account { dial: 1, ..account }, b"new, dial 1");
+    show(Account { pool: 1, ..account }, b"new, pool 1");
+    show(
+        Account {
+            previous: 1,
+            ..account
+        },
+        b"new, previous volume 1",
+    );
+}
+
+fn new_with_estimate() -> Account {
+    let account = Account::new();
+    Account {
+        estimates: Estimates {
+            count: 1,
+            periods: [MISSED; 6],
+        },
+        ..account
+    }
+}
+
+fn new_with_ledger(count: usize, held: u64, credit: u64) -> Account {
+    let account = Account::new();
+    Account {
+        ledger: Ledger {
+            count: count,
+            items: [OPEN; 72],
+            held: held,
+            credit: credit,
+        },
+        ..account
+    }
+}
+
+fn new_lists() {
+    show(new_with_estimate(), b"new, an estimate");
+    show(new_with_ledger(1, 0, 0), b"new, an item open");
+    show(new_with_ledger(0, 1, 0), b"new, 1 held");
+    show(new_with_ledger(0, 0, 1), b"new, credit 1");
+}
+
+fn supplied_calls(account: Account) {
+    line(account.read_meter(100, 140, FUEL), b"02");
+    line(account.miss_reading(100, FUEL), b"03");
+    line(account.note_absence(100, FUEL), b"04");
+    line(account.exchange_meter(100, 140, 0, 4), b"05");
+    line(account.disconnect(100, 140, FUEL), b"06");
+    line(account.cancel(100, 140, FUEL), b"08");
+    line(account.pay(100, 1), b"09");
+}
+
+fn other_calls(account: Account) {
+    line(account.begin_supply(100, 0, 4), b"01");
+    line(account.reconnect(100, 0, 4), b"07");
+    line(account.cancel_stopped(100), b"0a");
+}
+
+// Each call on a whole account that allows it, then on one account that is not whole.
+fn calls() {
+    text(b"a new account\n");
+    other_calls(Account::new());
+    text(b"a stopped account\n");
+    other_calls(with_status(Status::Stopped { stop: 90 }));
+    text(b"a supplied account\n");
+    supplied_calls(supplied());
+    text(b"a supplied account with pool 100000\n");
+    supplied_calls(with_pool(100_000));
+    other_calls(with_pool(100_000));
+}
+
+fn main() {
+    statuses();
+    meters();
+    estimate_days();
+    estimate_fuels();
+    estimate_amounts();
+    estimate_counts();
+    item_amounts();
+    item_days();
+    item_counts();
+    balances();
+    new_meters();
+    new_lists();
+    calls();
+}

@@ -1,0 +1,52 @@
+-- An input fed in pieces, and both sums for its calls.
+use mathlib.Core.Path.{_≡_}
+use mathlib.Core.Bool.{cond}
+use mathlib.Core.List.{List, [], _∷_, _++_}
+use Prim.Native.Nat.{ℕ, _+_}
+use lib.Dec.{eqb}
+use lib.ListN.{take}
+use Rattle.lists.specs.Sum.{total}
+use Rattle.account.specs.Calls.{newAccount}
+use Rattle.audit.specs.Book.{Book, prices}
+use Rattle.audit.specs.Claim.{Run, start, run, finalVolume, unpaidOn}
+use Rattle.wire.specs.Answers.{lineFeed}
+use Rattle.text.specs.declared.Session.{Session}
+use Rattle.text.specs.Output.{answersOf, accountAfter, callsOf}
+use Rattle.text.specs.Feeding.{feeding}
+
+-- The lines that end in what came, behind the part of a line, and the part that it leaves.
+unfoldable pub linesIn : List ℕ → List ℕ → List (List ℕ)
+linesIn part [] = []
+linesIn part (c ∷ cs) = cond (eqb c lineFeed) (part ∷ linesIn [] cs) (linesIn (part ++ (c ∷ [])) cs)
+
+unfoldable pub partAfter : List ℕ → List ℕ → List ℕ
+partAfter part [] = part
+partAfter part (c ∷ cs) = cond (eqb c lineFeed) (partAfter [] cs) (partAfter (part ++ (c ∷ [])) cs)
+
+-- A piece, and the room lent for what it makes.
+pub record Piece : Type 0 where
+  pub bytes : List ℕ
+  pub room : ℕ
+
+-- Pieces fed one after another: the session behind them, the bytes taken and the bytes written, each in order.
+abbrev pub sessionAfter : Session → List Piece → Session
+sessionAfter s [] = s
+sessionAfter s (piece ∷ pieces) = sessionAfter (feeding (piece .room) s (piece .bytes) .session) pieces
+
+abbrev pub takenOf : Session → List Piece → List ℕ
+takenOf s [] = []
+takenOf s (piece ∷ pieces) =
+    take (feeding (piece .room) s (piece .bytes) .taken) (piece .bytes) ++ takenOf (feeding (piece .room) s (piece .bytes) .session) pieces
+
+abbrev pub writtenOf : Session → List Piece → List ℕ
+writtenOf s [] = []
+writtenOf s (piece ∷ pieces) = feeding (piece .room) s (piece .bytes) .output ++ writtenOf (feeding (piece .room) s (piece .bytes) .session) pieces
+
+-- The book of the calls among lines.
+abbrev pub bookOf : List (List ℕ) → Book
+bookOf lines = run start (callsOf lines) .book
+
+-- Demand 3 for an input: the volumes are those that its answers show, the account is the one that its last line leaves.
+pub record Sums (lines : List (List ℕ)) : Type 0 where
+  pub volumes : total finalVolume (answersOf newAccount lines) ≡ bookOf lines .metering .advanced
+  pub yen : bookOf lines .money .received + unpaidOn (accountAfter newAccount lines) + accountAfter newAccount lines .ledger .held ≡ prices (bookOf lines .periods) + bookOf lines .money .arisen + accountAfter newAccount lines .ledger .credit
