@@ -3,3 +3,4 @@ pub mod Feeding
 pub mod Lines
 pub mod Pieces
 pub mod Sums
+pub mod Working

@@ -1,7 +1,7 @@
 -- What the programs write for an input.
 use mathlib.Core.Bool.{cond}
 use mathlib.Core.List.{List, [], _∷_, _++_}
-use Prim.Native.Nat.{ℕ}
+use Prim.Native.Nat.{ℕ, _-_, _^_}
 use lib.Dec.{leb}
 use lib.ListN.{length, take}
 use Rattle.lists.specs.Joined.{joined}
@@ -60,6 +60,16 @@ abbrev pub callsOf : List (List ℕ) → List Call
 callsOf [] = []
 callsOf (line ∷ lines) = callsIn (parsed line) (callsOf lines)
 
+-- Longer than any file: such an input is not worked, and its size is the largest number.
+abbrev pub longestInput : ℕ
+longestInput = 2 ^ 48
+
+abbrev pub sizeOf : List ℕ → List ℕ → ℕ
+sizeOf input text = cond (leb (length input) longestInput) (length text) (2 ^ 64 - 1)
+
 -- Text that is written where there is room for it, and otherwise not.
 abbrev pub fitted : List ℕ → List ℕ → List ℕ
 fitted place text = cond (leb (length text) (length place)) (written place 0 text) place
+
+abbrev pub worked : List ℕ → List ℕ → List ℕ → List ℕ
+worked input place text = cond (leb (length input) longestInput) (fitted place text) place

@@ -6,10 +6,11 @@ use Prim.Native.Nat.{ℕ, _+_}
 use lib.Dec.{eqb}
 use lib.ListN.{take}
 use Rattle.lists.specs.Sum.{total}
+use Rattle.lists.specs.Joined.{joined}
 use Rattle.account.specs.Calls.{newAccount}
 use Rattle.audit.specs.Book.{Book, prices}
 use Rattle.audit.specs.Claim.{Run, start, run, finalVolume, unpaidOn}
-use Rattle.wire.specs.Answers.{lineFeed}
+use Rattle.wire.specs.Answers.{lineFeed, answerLine}
 use Rattle.text.specs.declared.Session.{Session}
 use Rattle.text.specs.Output.{answersOf, accountAfter, callsOf}
 use Rattle.text.specs.Feeding.{feeding}
@@ -22,6 +23,10 @@ linesIn part (c ∷ cs) = cond (eqb c lineFeed) (part ∷ linesIn [] cs) (linesI
 unfoldable pub partAfter : List ℕ → List ℕ → List ℕ
 partAfter part [] = part
 partAfter part (c ∷ cs) = cond (eqb c lineFeed) (partAfter [] cs) (partAfter (part ++ (c ∷ [])) cs)
+
+-- What is written for the lines that end in what came.
+unfoldable pub made : List ℕ → List ℕ
+made came = joined answerLine (answersOf newAccount (linesIn [] came))
 
 -- A piece, and the room lent for what it makes.
 pub record Piece : Type 0 where

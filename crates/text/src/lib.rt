@@ -1,10 +1,14 @@
 // From the bytes of a household's file to the bytes that the programs write, in pieces of any size.
 ghost use mathlib.Core.Path.{_≡_};
-ghost use Prim.Native.Nat.{_*_, min, _≤_};
+ghost use mathlib.Core.Bool.{true, cond};
+ghost use Prim.Native.Nat.{_+_, _*_, min, _≤_};
 ghost use lib.ListN.{length, take};
 ghost use Rattle.wire.specs.Digits.{written};
 ghost use Rattle.wire.specs.Notices.{noticeLength};
-ghost use Rattle.text.specs.Output.{lineOutcome, noticesOf, openNotices, fitted};
+ghost use Rattle.text.specs.Output.{lineOutcome, accountAfter, noticesOf, openNotices, bill, notice, longestInput, sizeOf, fitted, worked};
+ghost use Rattle.account.specs.Calls.{newAccount};
+ghost use Rattle.text.specs.Lines.{linesOf};
+ghost use Rattle.text.specs.Pieces.{Sums};
 ghost use Rattle.text.specs.Feeding.{fresh, feeding, finishing, fedOf};
 use account::Account;
 use account::Outcome;
@@ -24,6 +28,15 @@ pub struct Fed {
     pub taken: usize,
     pub written: usize,
 }
+
+// What a whole input leaves: the account, and the size of what `bill` writes for it.
+pub struct Billed {
+    pub account: Account,
+    pub size: usize,
+}
+
+// No file is longer.
+const LONGEST_INPUT: usize = 281_474_976_710_656;
 
 impl Session {
     pub fn new() -> Session
@@ -154,4 +167,76 @@ fn put_items(ledger: Ledger, out: &mut [u8])
         wire::put_notice(items[i], out, 35 * i);
         i += 1;
     }
+}
+
+// A part of the output, at its place, if it is to be written.
+fn put_part(part: &[u8], out: &mut [u8], at: usize, writing: bool)
+    requires { ⌜ (writing ≡ true → at + length (now part) ≤ length (now out)) ⌝ }
+    ensures { λ _. ⌜ now (out .exit) ≡ cond writing (written (now (out .entry)) at (now (part .entry))) (now (out .entry)) ⌝ }
+{
+    if !writing {
+        return;
+    }
+    let mut i: usize = 0;
+    while i < part.len() {
+        out[at + i] = part[i];
+        i += 1;
+    }
+}
+
+// Works an input to its end, and writes what `bill` writes if that is asked.
+fn work_input(input: &[u8], out: &mut [u8], writing: bool) -> Billed
+    requires { ⌜ length (now input) ≤ longestInput ⌝ }
+    requires { ⌜ (writing ≡ true → length (bill (now input)) ≤ length (now out)) ⌝ }
+    ensures { λ r. ⌜ r ≡ record { account = accountAfter newAccount (linesOf (now (input .entry))); size = length (bill (now (input .entry))) } ⌝ }
+    ensures { λ _. ⌜ now (out .exit) ≡ cond writing (written (now (out .entry)) 0 (bill (now (input .entry)))) (now (out .entry)) ⌝ }
+{
+    let mut session = Session::new();
+    let mut space = [0u8; 4096];
+    let mut taken: usize = 0;
+    let mut size: usize = 0;
+    while taken < input.len() {
+        let fed = feed(session, &input[taken..], &mut space);
+        let written = fed.written;
+        put_part(&space[..written], out, size, writing);
+        session = fed.session;
+        taken += fed.taken;
+        size += written;
+    }
+    let last = finish(session, &mut space);
+    let written = last.written;
+    put_part(&space[..written], out, size, writing);
+    size += written;
+    let end = last.session;
+    let account = end.account;
+    Billed { account, size }
+}
+
+// What `bill` writes for an input, and its size; where out is too short for it, nothing is written.
+pub fn write_bill(input: &[u8], out: &mut [u8]) -> usize
+    ensures { λ r. ⌜ r ≡ sizeOf (now (input .entry)) (bill (now (input .entry))) ⌝ }
+    ensures { λ _. ⌜ now (out .exit) ≡ worked (now (input .entry)) (now (out .entry)) (bill (now (input .entry))) ⌝ }
+    ensures { λ _. ⌜ Sums (linesOf (now (input .entry))) ⌝ }
+{
+    if input.len() > LONGEST_INPUT {
+        return 18_446_744_073_709_551_615;
+    }
+    let measured = work_input(input, out, false);
+    if measured.size <= out.len() {
+        work_input(input, out, true);
+    }
+    measured.size
+}
+
+// What `notice` writes for an input, and its size; where out is too short for it, nothing is written.
+pub fn write_notice(input: &[u8], out: &mut [u8]) -> usize
+    ensures { λ r. ⌜ r ≡ sizeOf (now (input .entry)) (notice (now (input .entry))) ⌝ }
+    ensures { λ _. ⌜ now (out .exit) ≡ worked (now (input .entry)) (now (out .entry)) (notice (now (input .entry))) ⌝ }
+{
+    if input.len() > LONGEST_INPUT {
+        return 18_446_744_073_709_551_615;
+    }
+    let worked = work_input(input, out, false);
+    let account = worked.account;
+    put_notices(account, out)
 }

@@ -1,0 +1,96 @@
+-- A whole input worked in pieces. Assumes nothing.
+use mathlib.Core.Path.{_≡_, refl, sym, ap, _∙_}
+use mathlib.Core.Bool.{Bool, true, false, cond}
+use mathlib.Core.List.{List, [], _∷_, _++_}
+use Prim.Native.Nat.{ℕ, _+_, _-_, _*_, _≤_}
+use native.Mathlib.Nat.{zero-add}
+use native.Mathlib.Omega.{arith}
+use lib.ListN.{length, take, drop, length-append, take-append-drop, length-drop}
+use lib.Seq.{take-all, take-add, take-append-seam, sets-eq}
+use Rattle.lists.specs.Joined.{joined}
+use Rattle.lists.proofs.Joined.{joined-behind}
+use Rattle.account.specs.declared.Account.{Account}
+use Rattle.account.specs.Calls.{newAccount}
+use Rattle.wire.specs.Digits.{written}
+use Rattle.wire.specs.Answers.{answerLine, longestAnswer}
+use Rattle.wire.proofs.Writing.{written-behind}
+use Rattle.text.specs.declared.Session.{Session}
+use Rattle.text.specs.Lines.{linesFrom, linesOf}
+use Rattle.text.specs.Output.{answersOf, accountAfter, bill}
+use Rattle.text.specs.Feeding.{fresh, feeding, finishing}
+use Rattle.text.specs.Pieces.{linesIn, partAfter, made}
+use Rattle.text.proofs.Lines.{lines-split, answers-behind}
+use Rattle.text.proofs.Pieces.{Stands, stands-start, stands-on, Ended, stands-end}
+
+-- What was written is what stands in its place.
+pub shown-part : (text xs : List ℕ) → length xs ≤ length text → take (length xs) (written text 0 xs) ≡ xs
+shown-part text xs h = ap (take (length xs)) (sets-eq xs text 0 (rw (zero-add (length xs)) h)) ∙ take-append-seam xs (drop (0 + length xs) text)
+
+-- What the lines of a front make is within what the whole input makes.
+pub made-within : (input : List ℕ) (n : ℕ) → length (made (take n input)) ≤ length (bill input)
+unfolding made bill
+made-within input n =
+    let lines = linesIn [] (take n input) in
+    let rest = linesFrom (partAfter [] (take n input)) (drop n input) in
+    let whole = ap (linesFrom []) (sym (take-append-drop n input)) ∙ lines-split [] (take n input) (drop n input) in
+    let text = ap (λ ls. joined answerLine (answersOf newAccount ls)) whole ∙ ap (joined answerLine) (answers-behind newAccount lines rest) ∙ joined-behind answerLine (answersOf newAccount lines) (answersOf (accountAfter newAccount lines) rest) in
+    let long = ap length text ∙ length-append (joined answerLine (answersOf newAccount lines)) (joined answerLine (answersOf (accountAfter newAccount lines) rest)) in
+    omega (arith, long)
+
+-- Where the work stands after so many bytes.
+pub record Working (input text : List ℕ) (writing : Bool) (out : List ℕ) (s : Session) (taken size : ℕ) : Type 0 where
+  pub stands : Stands (take taken input) (made (take taken input)) s
+  pub size-is : size ≡ length (made (take taken input))
+  pub out-is : out ≡ cond writing (written text 0 (made (take taken input))) text
+
+made-none : made [] ≡ []
+unfolding made linesIn answersOf
+made-none = refl
+
+pub working-start : (input text : List ℕ) (writing : Bool) → Working input text writing text fresh 0 0
+working-start input text writing = record { stands = rw made-none stands-start; size-is = rw made-none refl; out-is = rw made-none (either writing) }
+  where
+    either : (w : Bool) → text ≡ cond w text text
+    either true = refl
+    either false = refl
+
+-- What is written behind what stands, if it is to be written.
+written-more : (writing : Bool) (text one two xs ys : List ℕ) (n : ℕ) → length xs ≡ n → one ≡ cond writing (written text 0 xs) text → two ≡ cond writing (written one n ys) one → two ≡ cond writing (written text 0 (xs ++ ys)) text
+written-more true text one two xs ys n l e f = f ∙ ap (λ t. written t n ys) e ∙ ap (λ m. written (written text 0 xs) m ys) (sym l ∙ sym (zero-add (length xs))) ∙ sym (written-behind text 0 xs ys)
+written-more false text one two xs ys n l e f = f ∙ e
+
+made-is : (seen : List ℕ) (out : List ℕ) (s : Session) → Stands seen out s → out ≡ made seen
+unfolding made
+made-is seen out s w = w .out-is
+
+pub working-on : (input text : List ℕ) (writing : Bool) (out out′ : List ℕ) (s : Session) (taken size room : ℕ) → Working input text writing out s taken size → out′ ≡ cond writing (written out size (feeding room s (drop taken input) .output)) out → Working input text writing out′ (feeding room s (drop taken input) .session) (taken + feeding room s (drop taken input) .taken) (size + length (feeding room s (drop taken input) .output))
+working-on input text writing out out′ s taken size room w e =
+    let f = feeding room s (drop taken input) in
+    let seen = take taken input in
+    let more = take (f .taken) (drop taken input) in
+    let next = stands-on seen (made seen) s room (drop taken input) (w .stands) in
+    let grown : made seen ++ f .output ≡ made (seen ++ more) = made-is (seen ++ more) (made seen ++ f .output) (f .session) next in
+    let done : made seen ++ f .output ≡ made (take (taken + f .taken) input) = grown ∙ ap made (sym (take-add taken (f .taken) input)) in
+    record {
+      stands = rw (← done, take-add taken (f .taken) input) next;
+      size-is = rw (← done, length-append (made seen) (f .output)) (ap (λ n. n + length (f .output)) (w .size-is));
+      out-is = rw (← done) (written-more writing text out out′ (made seen) (f .output) size (sym (w .size-is)) (w .out-is) e);
+    }
+
+-- And at its end.
+pub record Worked (input text : List ℕ) (writing : Bool) (out : List ℕ) (account : Account) (size : ℕ) : Type 0 where
+  pub account-is : account ≡ accountAfter newAccount (linesOf input)
+  pub size-is : size ≡ length (bill input)
+  pub out-is : out ≡ cond writing (written text 0 (bill input)) text
+
+pub working-end : (input text : List ℕ) (writing : Bool) (out out′ : List ℕ) (s : Session) (taken size room : ℕ) → longestAnswer ≤ room → length input ≤ taken → Working input text writing out s taken size → out′ ≡ cond writing (written out size (finishing room s .output)) out → Worked input text writing out′ (finishing room s .session .account) (size + length (finishing room s .output))
+working-end input text writing out out′ s taken size room r h w e =
+    let g = finishing room s in
+    let all = take-all taken input h in
+    let ended = stands-end (take taken input) (made (take taken input)) s room r (w .stands) in
+    let done : made (take taken input) ++ g .output ≡ bill input = ended .out-is ∙ ap bill all in
+    record {
+      account-is = ended .account-is ∙ ap (λ xs. accountAfter newAccount (linesOf xs)) all;
+      size-is = rw (← done, length-append (made (take taken input)) (g .output)) (ap (λ n. n + length (g .output)) (w .size-is));
+      out-is = rw (← done) (written-more writing text out out′ (made (take taken input)) (g .output) size (sym (w .size-is)) (w .out-is) e);
+    }
