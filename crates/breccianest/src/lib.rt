@@ -1,0 +1,24 @@
+// The library for programs in C or Rust: a household's file in, what `bill` or `notice` writes out.
+ghost use mathlib.Core.Path.{_≡_};
+ghost use Rattle.text.specs.Lines.{linesOf};
+ghost use Rattle.text.specs.Output.{bill, notice, sizeOf, worked};
+ghost use Rattle.text.specs.Pieces.{Sums};
+
+// The size of what `bill` writes for an input. It is written to output if it fits there, and otherwise nothing is.
+#[no_mangle]
+pub extern "C" fn breccianest_bill(input: &[u8], output: &mut [u8]) -> usize
+    ensures { λ r. ⌜ r ≡ sizeOf (now (input .entry)) (bill (now (input .entry))) ⌝ }
+    ensures { λ _. ⌜ now (output .exit) ≡ worked (now (input .entry)) (now (output .entry)) (bill (now (input .entry))) ⌝ }
+    ensures { λ _. ⌜ Sums (linesOf (now (input .entry))) ⌝ }
+{
+    text::write_bill(input, output)
+}
+
+// The same of `notice`.
+#[no_mangle]
+pub extern "C" fn breccianest_notice(input: &[u8], output: &mut [u8]) -> usize
+    ensures { λ r. ⌜ r ≡ sizeOf (now (input .entry)) (notice (now (input .entry))) ⌝ }
+    ensures { λ _. ⌜ now (output .exit) ≡ worked (now (input .entry)) (now (output .entry)) (notice (now (input .entry))) ⌝ }
+{
+    text::write_notice(input, output)
+}
