@@ -24,7 +24,7 @@ still = fuel 83130 75000
 
 -- A missed period of 30 days and 30 m³ at these prices.
 abbrev pub missed : Estimate
-missed = record { absent = false; days = 30; fuel = still; volume = 30; charged = 6650 }
+missed = record { absent = false; days = 30; fuel = still; volume = 30; charged = priceOf 30 still 30 }
 
 pub record Starred : Type 0 where
   pub average : averagePrice still ≡ 83090
