@@ -1,0 +1,47 @@
+/*
+ * Breccianest for C and C++: a household's file in, what `bill` or `notice`
+ * writes out.
+ *
+ * Link with libbreccianest.a (x86-64 Linux). The library needs only memcpy
+ * and memset, keeps nothing between calls, takes no memory of its own but the
+ * stack, and may be called from several threads at once.
+ */
+#ifndef BRECCIANEST_H
+#define BRECCIANEST_H
+
+#include <stddef.h>
+#include <stdint.h>
+
+#ifdef __cplusplus
+extern "C" {
+#endif
+
+/* The longest input in bytes. For a longer one both functions return SIZE_MAX. */
+#define BRECCIANEST_LONGEST_INPUT ((uint64_t)1 << 48)
+
+/*
+ * Works a whole input: lines of lower-case hexadecimal, a frame a line, each
+ * ended by LF; the last may lack it. Any bytes are an input: a line that is no
+ * frame is answered with number 40.
+ *
+ * Returns the size of the whole output. If that is at most output_len, the
+ * output is in the first bytes of `output` and the others are as they were. If
+ * it is greater, nothing was written: call again with a buffer of that size.
+ *
+ * Neither pointer may be null, even where the length is 0, and the buffers may
+ * not overlap.
+ */
+
+/* A frame for each line: number, volumes, net, interest, unpaid, credit. */
+size_t breccianest_bill(const uint8_t *input, size_t input_len,
+                        uint8_t *output, size_t output_len);
+
+/* A line for each item that is open at the end of the input, oldest first. */
+size_t breccianest_notice(const uint8_t *input, size_t input_len,
+                          uint8_t *output, size_t output_len);
+
+#ifdef __cplusplus
+}
+#endif
+
+#endif
