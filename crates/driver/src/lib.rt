@@ -1,4 +1,5 @@
 // Reads standard input to its end and feeds it to the account, in blocks of 64 KiB.
+ghost use Rattle.text.specs.Reached.{Reached};
 use libc::STDIN_FILENO;
 use libc::STDOUT_FILENO;
 use text::Session;
@@ -21,13 +22,16 @@ fn print(text: &[u8], is_printing: bool) -> bool {
     is_written
 }
 
-// Feeds a block from its start to its end.
-fn feed_block(session: Session, block: &[u8], is_printing: bool) -> Run {
+// Feeds a block from its start to its end. All comes from a new account, so number 41 is not asked.
+fn feed_block(session: Session, block: &[u8], is_printing: bool) -> Run
+    requires { ⌜ Reached (session .account) ⌝ }
+    ensures { λ r. ⌜ Reached (r .session .account) ⌝ }
+{
     let mut session = session;
     let mut out = io::large_buffer();
     let mut at: usize = 0;
     while at < block.len() {
-        let fed = text::feed(session, &block[at..], &mut out);
+        let fed = text::feed_as(session, &block[at..], &mut out, true);
         let written = fed.written;
         session = fed.session;
         at += fed.taken;

@@ -4,3 +4,4 @@ pub mod Lines
 pub mod Pieces
 pub mod Sums
 pub mod Working
+pub mod Reached

@@ -18,7 +18,7 @@ use Rattle.text.specs.Output.{parsedOutcome, lineOutcome, answersOf, acc
 use Rattle.text.specs.Pieces.{bookOf, Sums}
 
 -- The account that lines leave is the one that their calls leave: a line that is no frame changes nothing.
-account-run : (lines : List (List ℕ)) (r : Run) → accountAfter (r .account) lines ≡ run r (callsOf lines) .account
+pub account-run : (lines : List (List ℕ)) (r : Run) → accountAfter (r .account) lines ≡ run r (callsOf lines) .account
 unfolding accountAfter run
 account-run [] r = refl
 account-run (line ∷ lines) r = go (parsed line) (λ call. account-run lines (step r call)) (account-run lines r)

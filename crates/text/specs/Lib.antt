@@ -3,3 +3,4 @@ pub mod Lines
 pub mod Output
 pub mod Feeding
 pub mod Pieces
+pub mod Reached

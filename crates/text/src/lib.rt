@@ -7,10 +7,14 @@ ghost use Rattle.wire.specs.Digits.{written};
 ghost use Rattle.wire.specs.Notices.{noticeLength};
 ghost use Rattle.text.specs.Output.{lineOutcome, accountAfter, noticesOf, openNotices, bill, notice, longestInput, sizeOf, fitted, worked};
 ghost use Rattle.account.specs.Calls.{newAccount};
+ghost use Rattle.account.specs.Outcomes.{outcome};
+ghost use Rattle.account.specs.Whole.{whole};
+ghost use Rattle.text.specs.Reached.{Reached};
 ghost use Rattle.text.specs.Lines.{linesOf};
 ghost use Rattle.text.specs.Pieces.{Sums};
 ghost use Rattle.text.specs.Feeding.{fresh, feeding, finishing, fedOf};
 use account::Account;
+use account::Call;
 use account::Outcome;
 use ledger::Ledger;
 use wire::Parsed;
@@ -50,13 +54,25 @@ impl Session {
     }
 }
 
+// A call's outcome. Of an account known to be whole, number 41 is not asked.
+fn answer_call(account: Account, call: Call, known: bool) -> Outcome
+    requires { ⌜ (known ≡ true → whole account ≡ true) ⌝ }
+    ensures { λ r. ⌜ r ≡ outcome account call ⌝ }
+{
+    if known {
+        return account::whole::answer(account, call);
+    }
+    account.apply(call)
+}
+
 // A line's outcome: 40, or that of its call.
-fn answer_line(account: Account, line: &[u8]) -> Outcome
+fn answer_line(account: Account, line: &[u8], known: bool) -> Outcome
+    requires { ⌜ (known ≡ true → whole account ≡ true) ⌝ }
     ensures { λ r. ⌜ r ≡ lineOutcome account (now (line .entry)) ⌝ }
 {
     let parsed = wire::decode(line);
     match parsed {
-        Parsed::Frame(call) => account.apply(call),
+        Parsed::Frame(call) => answer_call(account, call, known),
         Parsed::NotAFrame => account::whole::decline(account, 40),
     }
 }
@@ -66,6 +82,17 @@ pub fn feed(session: Session, input: &[u8], out: &mut [u8]) -> Fed
     ensures { λ r. ⌜ r ≡ fedOf (feeding (length (now (out .entry))) session (now (input .entry))) ⌝ }
     ensures { λ _. ⌜ now (out .exit) ≡ written (now (out .entry)) 0 (feeding (length (now (out .entry))) session (now (input .entry)) .output) ⌝ }
     ensures { λ r. ⌜ (r .taken ≤ length (now (input .entry))) × (r .written ≤ length (now (out .entry))) ⌝ }
+{
+    feed_as(session, input, out, false)
+}
+
+// The same, for a session that may be known to come from a new account.
+pub fn feed_as(session: Session, input: &[u8], out: &mut [u8], known: bool) -> Fed
+    requires { ⌜ (known ≡ true → Reached (session .account)) ⌝ }
+    ensures { λ r. ⌜ r ≡ fedOf (feeding (length (now (out .entry))) session (now (input .entry))) ⌝ }
+    ensures { λ _. ⌜ now (out .exit) ≡ written (now (out .entry)) 0 (feeding (length (now (out .entry))) session (now (input .entry)) .output) ⌝ }
+    ensures { λ r. ⌜ (r .taken ≤ length (now (input .entry))) × (r .written ≤ length (now (out .entry))) ⌝ }
+    ensures { λ r. ⌜ (known ≡ true → Reached (r .session .account)) ⌝ }
 {
     let mut account = session.account;
     let mut length = session.length;
@@ -87,7 +114,7 @@ pub fn feed(session: Session, input: &[u8], out: &mut [u8]) -> Fed
                 };
             }
             let end = shown_length(length);
-            let outcome = answer_line(account, &line[..end]);
+            let outcome = answer_line(account, &line[..end], known);
             written = wire::put_answer(outcome.answer, out, written);
             account = outcome.account;
             length = 0;
@@ -196,7 +223,7 @@ fn work_input(input: &[u8], out: &mut [u8], writing: bool) -> Billed
     let mut taken: usize = 0;
     let mut size: usize = 0;
     while taken < input.len() {
-        let fed = feed(session, &input[taken..], &mut space);
+        let fed = feed_as(session, &input[taken..], &mut space, true);
         let written = fed.written;
         put_part(&space[..written], out, size, writing);
         session = fed.session;

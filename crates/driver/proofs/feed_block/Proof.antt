@@ -4,6 +4,7 @@ use native.Mathlib.Omega.{arith}
 use mathlib.Core.List.{List}
 use lib.ListN.{length, take, drop, length-drop}
 use Rattle.text.specs.declared.Fed.{Fed}
+use Rattle.text.specs.Reached.{Reached}
 use Rattle.text.proofs.Feeding.{taken-some}
 use lib.Seq.{length-take-le}
 use borrow.Author.Needs.{needs}
@@ -13,32 +14,32 @@ use Rattle.driver.proofs.feed_block.Reads as reads
 use Rattle.driver.proofs.feed_block.Lts as lts
 use Rattle.driver.proofs.print.Reads as print-reads
 use Rattle.io.proofs.large_buffer.Reads as large-buffer-reads
-use Rattle.text.proofs.feed.Reads as feed-reads
+use Rattle.text.proofs.feed_as.Reads as feed-reads
 
 abbrev Inv-loop : tie.InvT-loop
-Inv-loop block is-printing session₀ out₀ at₀ session out at = (at ≤ length block) × (length out ≡ 65536)
+Inv-loop block is-printing session₀ out₀ at₀ session out at = (at ≤ length block) × (length out ≡ 65536) × Reached (session .account)
 
 abbrev μ-loop : tie.MeasureT-loop
 μ-loop block is-printing session₀ out₀ at₀ session out at = length block - at
 
-out-length : (c : tie.After-feed Inv-loop μ-loop) → length (c .feed .last .1 .1 .0) ≡ 65536
+out-length : (c : tie.After-feed-as Inv-loop μ-loop) → length (c .feed-as .last .1 .1 .0) ≡ 65536
 out-length c = search needs
 
 -- the rest of the block
-abbrev part : tie.After-feed Inv-loop μ-loop → List ℕ
+abbrev part : tie.After-feed-as Inv-loop μ-loop → List ℕ
 part c = take (length (c .before .before .before .before .before .before .before .args .block .now) - c .before .before .before .before .loop .at) (drop (c .before .before .before .before .loop .at) (c .before .before .before .before .before .before .before .args .block .now))
 
-part-long : (c : tie.After-feed Inv-loop μ-loop) → length (part c) ≡ length (c .before .before .before .before .before .before .before .args .block .now) - c .before .before .before .before .loop .at
+part-long : (c : tie.After-feed-as Inv-loop μ-loop) → length (part c) ≡ length (c .before .before .before .before .before .before .before .args .block .now) - c .before .before .before .before .loop .at
 part-long c = let rest = length-drop (c .before .before .before .before .loop .at) (c .before .before .before .before .before .before .before .args .block .now) in
     length-take-le (length (c .before .before .before .before .before .before .before .args .block .now) - c .before .before .before .before .loop .at) (drop (c .before .before .before .before .loop .at) (c .before .before .before .before .before .before .before .args .block .now)) (omega (arith, rest))
 
 -- no more was taken than the rest of the block, and no more written than there was room for
-fed-bounds : (c : tie.After-feed Inv-loop μ-loop) → (c .feed .result .taken ≤ length (c .before .before .before .before .before .before .before .args .block .now) - c .before .before .before .before .loop .at) × (c .feed .result .written ≤ 65536)
-fed-bounds c = (rw (← part-long c) (c .feed .ensures .1 .1 .0), rw (← c .before .before .before .before .loop .inv .1) (c .feed .ensures .1 .1 .1))
+fed-bounds : (c : tie.After-feed-as Inv-loop μ-loop) → (c .feed-as .result .taken ≤ length (c .before .before .before .before .before .before .before .args .block .now) - c .before .before .before .before .loop .at) × (c .feed-as .result .written ≤ 65536)
+fed-bounds c = (rw (← part-long c) (c .feed-as .ensures .1 .1 .0 .0), rw (← c .before .before .before .before .loop .inv .1) (c .feed-as .ensures .1 .1 .0 .1))
 
 -- some byte was taken
-fed-some : (c : tie.After-feed Inv-loop μ-loop) → 1 ≤ c .feed .result .taken
-fed-some c = rw (ap (λ (f : Fed). f .taken) (c .feed .ensures .0)) (taken-some (length (c .before .before .before .before .loop .out)) (c .before .before .before .before .loop .session) (part c) (rw (c .before .before .before .before .loop .inv .1) (omega arith)) (rw (part-long c) (omega arith)))
+fed-some : (c : tie.After-feed-as Inv-loop μ-loop) → 1 ≤ c .feed-as .result .taken
+fed-some c = rw (ap (λ (f : Fed). f .taken) (c .feed-as .ensures .0)) (taken-some (length (c .before .before .before .before .loop .out)) (c .before .before .before .before .loop .session) (part c) (rw (c .before .before .before .before .loop .inv .1) (omega arith)) (rw (part-long c) (omega arith)))
 
 -- src/lib.rt:27:19
 large-buffer-requires : tie.Need-large-buffer-requires Inv-loop μ-loop
@@ -46,27 +47,27 @@ large-buffer-requires c κs = tt
 
 -- src/lib.rt:29:5
 loop-holds : tie.Need-loop-holds Inv-loop μ-loop
-loop-holds c = (omega arith, sym (c .large-buffer .ensures))
+loop-holds c = (omega arith, sym (c .large-buffer .ensures), c .before .before .pre)
 
 -- src/lib.rt:30:39
-sub-feed : tie.Need-sub-feed Inv-loop μ-loop
+sub-feed : tie.Need-sub-feed-as Inv-loop μ-loop
 sub-feed c = omega arith
 
 -- src/lib.rt:30:39
-part-feed-start : tie.Need-part-feed-start Inv-loop μ-loop
+part-feed-start : tie.Need-part-feed-as-start Inv-loop μ-loop
 part-feed-start c = omega arith
 
 -- src/lib.rt:30:39
-part-feed-end : tie.Need-part-feed-end Inv-loop μ-loop
+part-feed-end : tie.Need-part-feed-as-end Inv-loop μ-loop
 part-feed-end c = omega arith
 
 -- src/lib.rt:30:53
-slice-aggregate-feed : tie.Need-slice-aggregate-feed Inv-loop μ-loop
+slice-aggregate-feed : tie.Need-slice-aggregate-feed-as Inv-loop μ-loop
 slice-aggregate-feed c = sym (c .before .before .before .loop .inv .1)
 
 -- src/lib.rt:30:13
-feed-requires : tie.Need-feed-requires Inv-loop μ-loop
-feed-requires c κs = tt
+feed-requires : tie.Need-feed-as-requires Inv-loop μ-loop
+feed-requires c κs = λ _. c .before .before .before .loop .inv .2
 
 -- src/lib.rt:33:9
 add-at : tie.Need-add-at Inv-loop μ-loop
@@ -78,7 +79,7 @@ array-share-prefix-out c = rw (out-length (c .before .before .before)) (omega (a
 
 -- src/lib.rt:34:19
 slice-aggregate-print : tie.Need-slice-aggregate-print Inv-loop μ-loop
-slice-aggregate-print c = sym (length-take-le (c .before .before .before .before .feed .result .written) (c .before .before .before .before .feed .last .1 .1 .0) (rw (out-length (c .before .before .before .before)) (omega (arith, fed-bounds (c .before .before .before .before)))))
+slice-aggregate-print c = sym (length-take-le (c .before .before .before .before .feed-as .result .written) (c .before .before .before .before .feed-as .last .1 .1 .0) (rw (out-length (c .before .before .before .before)) (omega (arith, fed-bounds (c .before .before .before .before)))))
 
 -- src/lib.rt:34:13
 print-requires : tie.Need-print-requires Inv-loop μ-loop
@@ -86,7 +87,7 @@ print-requires c κs = tt
 
 -- src/lib.rt:35:13
 returns : tie.Need-returns Inv-loop μ-loop
-returns c = tt
+returns c = c .before .before .before .before .before .before .feed-as .ensures .1 .1 .1 refl
 
 -- src/lib.rt:29:5
 loop-less : tie.Need-loop-less Inv-loop μ-loop
@@ -94,11 +95,11 @@ loop-less c = omega (arith, fed-bounds (c .before .before .before .before .befor
 
 -- src/lib.rt:29:5
 loop-again : tie.Need-loop-again Inv-loop μ-loop
-loop-again c = (omega (arith, fed-bounds (c .before .before .before .before .before .before)), out-length (c .before .before .before .before .before .before))
+loop-again c = (omega (arith, fed-bounds (c .before .before .before .before .before .before)), out-length (c .before .before .before .before .before .before), c .before .before .before .before .before .before .feed-as .ensures .1 .1 .1 refl)
 
 -- src/lib.rt:25:1
 returns-2 : tie.Need-returns-2 Inv-loop μ-loop
-returns-2 c = tt
+returns-2 c = c .before .loop .inv .2
 
 pub feed-block-spec : {M : Type 1} → statement M
 feed-block-spec =

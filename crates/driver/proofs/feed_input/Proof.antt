@@ -1,5 +1,7 @@
-use mathlib.Core.Path.{_≡_}
+use mathlib.Core.Path.{_≡_, sym}
 use lib.ListN.{length}
+use Rattle.text.specs.Reached.{Reached}
+use Rattle.text.proofs.Reached.{reached-new}
 use borrow.Author.Needs.{needs}
 use Rattle.driver.proofs.feed_input.Statement.{statement}
 use Rattle.driver.proofs.feed_input.Tie as tie
@@ -14,7 +16,7 @@ use Rattle.os.proofs.fail.Reads as fail-reads
 use Rattle.text.proofs.Session.new.Reads as new-reads
 
 abbrev Inv-loop : tie.InvT-loop
-Inv-loop is-printing session₀ block₀ turns₀ t8 session block turns = length block ≡ 65536
+Inv-loop is-printing session₀ block₀ turns₀ t8 session block turns = (length block ≡ 65536) × Reached (session .account)
 
 abbrev μ-loop : tie.MeasureT-loop
 μ-loop is-printing session₀ block₀ turns₀ t8 session block turns = turns
@@ -29,7 +31,7 @@ large-buffer-requires c κs = search needs
 
 -- src/lib.rt:66:5
 loop-holds : tie.Need-loop-holds Inv-loop μ-loop
-loop-holds c = search needs
+loop-holds c = (sym (c .large-buffer .ensures), rw (c .before .new .ensures) reached-new)
 
 -- src/lib.rt:67:9
 sub-turns : tie.Need-sub-turns Inv-loop μ-loop

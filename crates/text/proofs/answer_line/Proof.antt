@@ -5,7 +5,7 @@ use Rattle.text.proofs.answer_line.Statement.{statement}
 use Rattle.text.proofs.answer_line.Tie as tie
 use Rattle.text.proofs.answer_line.Reads as reads
 use Rattle.text.proofs.answer_line.Lts as lts
-use Rattle.account.proofs.Account.apply.Reads as apply-reads
+use Rattle.text.proofs.answer_call.Reads as answer-call-reads
 use Rattle.account.proofs.whole.decline.Reads as decline-reads
 use Rattle.wire.proofs.decode.Reads as decode-reads
 
@@ -18,8 +18,8 @@ enum-known-parsed : tie.Need-enum-known-parsed
 enum-known-parsed c = search needs
 
 -- src/lib.rt:44:32
-apply-requires : tie.Need-apply-requires
-apply-requires c κs = search needs
+answer-call-requires : tie.Need-answer-call-requires
+answer-call-requires c κs = c .before .before .before .before .before .pre
 
 -- src/lib.rt:45:30
 enum-told : tie.Need-enum-told
@@ -31,7 +31,7 @@ decline-requires c κs = search needs
 
 -- src/lib.rt:39:1
 returns : tie.Need-returns
-returns c = c .apply .ensures ∙ sym (ap (parsedOutcome (c .before .before .before .before .before .before .args .account)) (sym (c .before .before .before .before .decode .ensures) ∙ c .before .before .parsed .given .1))
+returns c = c .answer-call .ensures ∙ sym (ap (parsedOutcome (c .before .before .before .before .before .before .args .account)) (sym (c .before .before .before .before .decode .ensures) ∙ c .before .before .parsed .given .1))
 
 -- src/lib.rt:39:1
 returns-2 : tie.Need-returns-2
@@ -43,7 +43,7 @@ answer-line-spec =
     (tie.spec
     decode-requires
     enum-known-parsed
-    apply-requires
+    answer-call-requires
     enum-told
     decline-requires
     returns

@@ -2,13 +2,15 @@ use mathlib.Core.Path.{_≡_, refl, sym, ap, _∙_}
 use Prim.Native.Nat.{ℕ, _+_, _-_, _*_, _≤_}
 use native.Mathlib.Omega.{arith}
 use mathlib.Core.Bool.{true, cond}
-use mathlib.Core.List.{List}
+use mathlib.Core.List.{List, []}
 use lib.ListN.{length, take, drop, length-drop}
 use lib.Seq.{take-all, length-take-le}
 use Rattle.wire.specs.Digits.{written}
 use Rattle.text.specs.declared.Fed.{Fed}
 use Rattle.text.specs.Output.{bill}
 use Rattle.text.specs.Feeding.{Feeding, feeding, finishing, fedOf}
+use Rattle.text.specs.Pieces.{linesIn}
+use Rattle.text.proofs.Reached.{reached-lines}
 use Rattle.text.proofs.Feeding.{taken-some}
 use borrow.Author.Needs.{needs}
 use Rattle.text.proofs.Working.{shown-part, made-within, Working, working-start, working-on, Worked, working-end}
@@ -17,7 +19,7 @@ use Rattle.text.proofs.work_input.Tie as tie
 use Rattle.text.proofs.work_input.Reads as reads
 use Rattle.text.proofs.work_input.Lts as lts
 use Rattle.text.proofs.Session.new.Reads as new-reads
-use Rattle.text.proofs.feed.Reads as feed-reads
+use Rattle.text.proofs.feed_as.Reads as feed-reads
 use Rattle.text.proofs.finish.Reads as finish-reads
 use Rattle.text.proofs.put_part.Reads as put-part-reads
 
@@ -29,47 +31,47 @@ abbrev μ-loop : tie.MeasureT-loop
 μ-loop input out₀ writing session₀ space₀ taken₀ size₀ out session space taken size = length input - taken
 
 -- what the rest of the input makes
-abbrev fed : tie.After-feed Inv-loop μ-loop → Feeding
+abbrev fed : tie.After-feed-as Inv-loop μ-loop → Feeding
 fed c = feeding 4096 (c .before .before .before .before .loop .session) (drop (c .before .before .before .before .loop .taken) (c .before .before .before .before .before .before .before .before .args .input .now))
 
-same : (c : tie.After-feed Inv-loop μ-loop) → feeding (length (c .before .before .before .before .loop .space)) (c .before .before .before .before .loop .session) (take (length (c .before .before .before .before .before .before .before .before .args .input .now) - c .before .before .before .before .loop .taken) (drop (c .before .before .before .before .loop .taken) (c .before .before .before .before .before .before .before .before .args .input .now))) ≡ fed c
+same : (c : tie.After-feed-as Inv-loop μ-loop) → feeding (length (c .before .before .before .before .loop .space)) (c .before .before .before .before .loop .session) (take (length (c .before .before .before .before .before .before .before .before .args .input .now) - c .before .before .before .before .loop .taken) (drop (c .before .before .before .before .loop .taken) (c .before .before .before .before .before .before .before .before .args .input .now))) ≡ fed c
 same c =
     let input = c .before .before .before .before .before .before .before .before .args .input .now in
     let taken = c .before .before .before .before .loop .taken in
     let long = length-drop taken input in
     ap (λ n. feeding n (c .before .before .before .before .loop .session) (take (length input - taken) (drop taken input))) (c .before .before .before .before .loop .inv .2) ∙ ap (feeding 4096 (c .before .before .before .before .loop .session)) (take-all (length input - taken) (drop taken input) (omega (arith, long)))
 
-fed-is : (c : tie.After-feed Inv-loop μ-loop) → c .feed .result ≡ fedOf (fed c)
-fed-is c = c .feed .ensures .0 ∙ ap fedOf (same c)
+fed-is : (c : tie.After-feed-as Inv-loop μ-loop) → c .feed-as .result ≡ fedOf (fed c)
+fed-is c = c .feed-as .ensures .0 ∙ ap fedOf (same c)
 
-space-long : (c : tie.After-feed Inv-loop μ-loop) → length (c .feed .last .1 .1 .0) ≡ 4096
+space-long : (c : tie.After-feed-as Inv-loop μ-loop) → length (c .feed-as .last .1 .1 .0) ≡ 4096
 space-long c = search needs
 
-written-most : (c : tie.After-feed Inv-loop μ-loop) → c .feed .result .written ≤ 4096
-written-most c = rw (← c .before .before .before .before .loop .inv .2) (c .feed .ensures .1 .1 .1)
+written-most : (c : tie.After-feed-as Inv-loop μ-loop) → c .feed-as .result .written ≤ 4096
+written-most c = rw (← c .before .before .before .before .loop .inv .2) (c .feed-as .ensures .1 .1 .0 .1)
 
-taken-most : (c : tie.After-feed Inv-loop μ-loop) → c .before .before .before .before .loop .taken + c .feed .result .taken ≤ length (c .before .before .before .before .before .before .before .before .args .input .now)
+taken-most : (c : tie.After-feed-as Inv-loop μ-loop) → c .before .before .before .before .loop .taken + c .feed-as .result .taken ≤ length (c .before .before .before .before .before .before .before .before .args .input .now)
 taken-most c =
     let input = c .before .before .before .before .before .before .before .before .args .input .now in
     let taken = c .before .before .before .before .loop .taken in
     let long = length-drop taken input in
     let part = length-take-le (length input - taken) (drop taken input) (omega (arith, long)) in
-    omega (arith, part, c .feed .ensures .1 .1 .0)
+    omega (arith, part, c .feed-as .ensures .1 .1 .0 .0)
 
-taken-more : (c : tie.After-feed Inv-loop μ-loop) → 1 ≤ c .feed .result .taken
+taken-more : (c : tie.After-feed-as Inv-loop μ-loop) → 1 ≤ c .feed-as .result .taken
 taken-more c =
     let input = c .before .before .before .before .before .before .before .before .args .input .now in
     let long = length-drop (c .before .before .before .before .loop .taken) input in
     rw (ap (λ (f : Fed). f .taken) (fed-is c)) (taken-some 4096 (c .before .before .before .before .loop .session) (drop (c .before .before .before .before .loop .taken) input) (omega arith) (omega (arith, long)))
 
 -- what was written of it stands in the space lent
-part-is : (c : tie.After-feed Inv-loop μ-loop) → take (c .feed .result .written) (c .feed .last .1 .1 .0) ≡ fed c .output
+part-is : (c : tie.After-feed-as Inv-loop μ-loop) → take (c .feed-as .result .written) (c .feed-as .last .1 .1 .0) ≡ fed c .output
 part-is c =
-    let count : c .feed .result .written ≡ length (fed c .output) = ap (λ (f : Fed). f .written) (fed-is c) in
-    ap (λ n. take n (c .feed .last .1 .1 .0)) count ∙ ap (take (length (fed c .output))) (c .feed .ensures .1 .0 ∙ ap (λ (f : Feeding). written (c .before .before .before .before .loop .space) 0 (f .output)) (same c)) ∙ shown-part (c .before .before .before .before .loop .space) (fed c .output) (omega (arith, count, written-most c, c .before .before .before .before .loop .inv .2))
+    let count : c .feed-as .result .written ≡ length (fed c .output) = ap (λ (f : Fed). f .written) (fed-is c) in
+    ap (λ n. take n (c .feed-as .last .1 .1 .0)) count ∙ ap (take (length (fed c .output))) (c .feed-as .ensures .1 .0 ∙ ap (λ (f : Feeding). written (c .before .before .before .before .loop .space) 0 (f .output)) (same c)) ∙ shown-part (c .before .before .before .before .loop .space) (fed c .output) (omega (arith, count, written-most c, c .before .before .before .before .loop .inv .2))
 
 -- the work behind this piece
-next : (c : tie.After-feed Inv-loop μ-loop) (out : List ℕ) → out ≡ cond (c .before .before .before .before .before .before .before .before .args .writing) (written (c .before .before .before .before .loop .out) (c .before .before .before .before .loop .size) (fed c .output)) (c .before .before .before .before .loop .out) → Working (c .before .before .before .before .before .before .before .before .args .input .now) (c .before .before .before .before .before .before .before .before .args .out .now) (c .before .before .before .before .before .before .before .before .args .writing) out (fed c .session) (c .before .before .before .before .loop .taken + fed c .taken) (c .before .before .before .before .loop .size + length (fed c .output))
+next : (c : tie.After-feed-as Inv-loop μ-loop) (out : List ℕ) → out ≡ cond (c .before .before .before .before .before .before .before .before .args .writing) (written (c .before .before .before .before .loop .out) (c .before .before .before .before .loop .size) (fed c .output)) (c .before .before .before .before .loop .out) → Working (c .before .before .before .before .before .before .before .before .args .input .now) (c .before .before .before .before .before .before .before .before .args .out .now) (c .before .before .before .before .before .before .before .before .args .writing) out (fed c .session) (c .before .before .before .before .loop .taken + fed c .taken) (c .before .before .before .before .loop .size + length (fed c .output))
 next c out e = working-on (c .before .before .before .before .before .before .before .before .args .input .now) (c .before .before .before .before .before .before .before .before .args .out .now) (c .before .before .before .before .before .before .before .before .args .writing) (c .before .before .before .before .loop .out) out (c .before .before .before .before .loop .session) (c .before .before .before .before .loop .taken) (c .before .before .before .before .loop .size) 4096 (c .before .before .before .before .loop .inv .4) e
 
 -- the end of the input
@@ -93,7 +95,7 @@ last-part c =
 done : (c : tie.After-finish Inv-loop μ-loop) (out : List ℕ) → out ≡ cond (c .before .before .before .before .before .before .before .args .writing) (written (c .before .before .before .loop .out) (c .before .before .before .loop .size) (last c .output)) (c .before .before .before .loop .out) → Worked (c .before .before .before .before .before .before .before .args .input .now) (c .before .before .before .before .before .before .before .args .out .now) (c .before .before .before .before .before .before .before .args .writing) out (last c .session .account) (c .before .before .before .loop .size + length (last c .output))
 done c out e = working-end (c .before .before .before .before .before .before .before .args .input .now) (c .before .before .before .before .before .before .before .args .out .now) (c .before .before .before .before .before .before .before .args .writing) (c .before .before .before .loop .out) out (c .before .before .before .loop .session) (c .before .before .before .loop .taken) (c .before .before .before .loop .size) 4096 (omega arith) (omega arith) (c .before .before .before .loop .inv .4) e
 
-room : (c : tie.After-feed Inv-loop μ-loop) → c .before .before .before .before .before .before .before .before .args .writing ≡ true → c .before .before .before .before .loop .size + length (take (c .feed .result .written) (c .feed .last .1 .1 .0)) ≤ length (c .before .before .before .before .loop .out)
+room : (c : tie.After-feed-as Inv-loop μ-loop) → c .before .before .before .before .before .before .before .before .args .writing ≡ true → c .before .before .before .before .loop .size + length (take (c .feed-as .result .written) (c .feed-as .last .1 .1 .0)) ≤ length (c .before .before .before .before .loop .out)
 room c e =
     let w = next c (cond (c .before .before .before .before .before .before .before .before .args .writing) (written (c .before .before .before .before .loop .out) (c .before .before .before .before .loop .size) (fed c .output)) (c .before .before .before .before .loop .out)) refl in
     rw (part-is c) (omega (arith, w .size-is, made-within (c .before .before .before .before .before .before .before .before .args .input .now) (c .before .before .before .before .loop .taken + fed c .taken), c .before .before .before .before .before .before .before .before .pre .1 e, c .before .before .before .before .loop .inv .1))
@@ -118,24 +120,24 @@ loop-holds : tie.Need-loop-holds Inv-loop μ-loop
 loop-holds c = (omega arith, refl, refl, omega arith, rw (c .new .ensures) (working-start (c .before .before .before .args .input .now) (c .before .before .before .args .out .now) (c .before .before .before .args .writing)))
 
 -- src/lib.rt:199:33
-sub-feed : tie.Need-sub-feed Inv-loop μ-loop
+sub-feed : tie.Need-sub-feed-as Inv-loop μ-loop
 sub-feed c = omega arith
 
 -- src/lib.rt:199:33
-part-feed-start : tie.Need-part-feed-start Inv-loop μ-loop
+part-feed-start : tie.Need-part-feed-as-start Inv-loop μ-loop
 part-feed-start c = omega arith
 
 -- src/lib.rt:199:33
-part-feed-end : tie.Need-part-feed-end Inv-loop μ-loop
+part-feed-end : tie.Need-part-feed-as-end Inv-loop μ-loop
 part-feed-end c = omega arith
 
 -- src/lib.rt:199:50
-slice-aggregate-feed : tie.Need-slice-aggregate-feed Inv-loop μ-loop
+slice-aggregate-feed : tie.Need-slice-aggregate-feed-as Inv-loop μ-loop
 slice-aggregate-feed c = sym (c .before .before .before .loop .inv .2)
 
 -- src/lib.rt:199:13
-feed-requires : tie.Need-feed-requires Inv-loop μ-loop
-feed-requires c κs = tt
+feed-requires : tie.Need-feed-as-requires Inv-loop μ-loop
+feed-requires c κs = λ _. reached-lines (c .before .before .before .loop .session .account) (linesIn [] (take (c .before .before .before .loop .taken) (c .before .before .before .before .before .before .before .args .input .now))) (c .before .before .before .loop .inv .4 .stands .account-is)
 
 -- src/lib.rt:201:18
 array-share-prefix-space : tie.Need-array-share-prefix-space Inv-loop μ-loop
@@ -143,7 +145,7 @@ array-share-prefix-space c = rw (space-long (c .before)) (written-most (c .befor
 
 -- src/lib.rt:201:18
 slice-aggregate-put-part : tie.Need-slice-aggregate-put-part Inv-loop μ-loop
-slice-aggregate-put-part c = sym (length-take-le (c .before .before .feed .result .written) (c .before .before .feed .last .1 .1 .0) (rw (space-long (c .before .before)) (written-most (c .before .before))))
+slice-aggregate-put-part c = sym (length-take-le (c .before .before .feed-as .result .written) (c .before .before .feed-as .last .1 .1 .0) (rw (space-long (c .before .before)) (written-most (c .before .before))))
 
 -- src/lib.rt:201:9
 put-part-requires : tie.Need-put-part-requires Inv-loop μ-loop
