@@ -49,9 +49,11 @@ fn feed_block(session: Session, block: &[u8], is_printing: bool) -> Run
 }
 
 // The end of the input.
-fn end_input(session: Session, is_printing: bool) -> Run {
+fn end_input(session: Session, is_printing: bool) -> Run
+    requires { ⌜ Reached (session .account) ⌝ }
+{
     let mut out = [0u8; 117];
-    let fed = text::finish(session, &mut out);
+    let fed = text::finish_as(session, &mut out, true);
     let written = fed.written;
     let is_sound = print(&out[..written], is_printing);
     let session = fed.session;

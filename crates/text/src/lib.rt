@@ -152,6 +152,16 @@ pub fn finish(session: Session, out: &mut [u8]) -> Fed
     ensures { λ _. ⌜ now (out .exit) ≡ written (now (out .entry)) 0 (finishing (length (now (out .entry))) session .output) ⌝ }
     ensures { λ r. ⌜ r .written ≤ length (now (out .entry)) ⌝ }
 {
+    finish_as(session, out, false)
+}
+
+// The same, for a session that may be known to come from a new account.
+pub fn finish_as(session: Session, out: &mut [u8], known: bool) -> Fed
+    requires { ⌜ (known ≡ true → Reached (session .account)) ⌝ }
+    ensures { λ r. ⌜ r ≡ fedOf (finishing (length (now (out .entry))) session) ⌝ }
+    ensures { λ _. ⌜ now (out .exit) ≡ written (now (out .entry)) 0 (finishing (length (now (out .entry))) session .output) ⌝ }
+    ensures { λ r. ⌜ r .written ≤ length (now (out .entry)) ⌝ }
+{
     if session.length == 0 {
         return Fed {
             session,
@@ -160,7 +170,7 @@ pub fn finish(session: Session, out: &mut [u8]) -> Fed
         };
     }
     let end = [10u8; 1];
-    feed(session, &end, out)
+    feed_as(session, &end, out, known)
 }
 
 // The notices of an account's open items, and their length; where out is too short for it, nothing is written.
@@ -230,7 +240,7 @@ fn work_input(input: &[u8], out: &mut [u8], writing: bool) -> Billed
         taken += fed.taken;
         size += written;
     }
-    let last = finish(session, &mut space);
+    let last = finish_as(session, &mut space, true);
     let written = last.written;
     put_part(&space[..written], out, size, writing);
     size += written;

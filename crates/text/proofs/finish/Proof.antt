@@ -1,33 +1,22 @@
-use native.Mathlib.Omega.{arith}
-use lib.ListN.{length}
-use mathlib.Core.Path.{refl}
-use Rattle.text.proofs.Feeding.{finish-none, finish-line}
+use mathlib.Core.Bool.{false≢true}
 use borrow.Author.Needs.{needs}
 use Rattle.text.proofs.finish.Statement.{statement}
 use Rattle.text.proofs.finish.Tie as tie
 use Rattle.text.proofs.finish.Reads as reads
 use Rattle.text.proofs.finish.Lts as lts
-use Rattle.text.proofs.feed.Reads as feed-reads
+use Rattle.text.proofs.finish_as.Reads as finish-as-reads
 
--- src/lib.rt:114:9
-returns : tie.Need-returns
-returns c = rw (finish-none (length (c .before .before .before .args .out .now)) (c .before .before .before .args .session) (c .if1 .taken)) (refl, (refl, omega arith))
+-- src/lib.rt:155:5
+finish-as-requires : tie.Need-finish-as-requires
+finish-as-requires c κs = λ e. absurd (false≢true e)
 
--- src/lib.rt:121:19
-slice-aggregate-feed : tie.Need-slice-aggregate-feed
-slice-aggregate-feed c = search needs
-
--- src/lib.rt:121:5
-feed-requires : tie.Need-feed-requires
-feed-requires c κs = search needs
-
--- src/lib.rt:109:1
+-- src/lib.rt:150:1
 same-length : tie.Need-same-length
 same-length c = search needs
 
--- src/lib.rt:109:1
-returns-2 : tie.Need-returns-2
-returns-2 c = rw (finish-line (length (c .before .before .before .before .before .before .before .before .args .out .now)) (c .before .before .before .before .before .before .before .before .args .session) (c .before .before .before .before .before .if1 .left)) (c .before .before .feed .ensures .0, (c .before .before .feed .ensures .1 .0, c .before .before .feed .ensures .1 .1 .1))
+-- src/lib.rt:150:1
+returns : tie.Need-returns
+returns c = search needs
 
 pub finish-spec : {M : Type 1} → statement M
-finish-spec = tie.close (tie.spec returns slice-aggregate-feed feed-requires same-length returns-2)
+finish-spec = tie.close (tie.spec finish-as-requires same-length returns)

@@ -20,7 +20,7 @@ use Rattle.text.proofs.work_input.Reads as reads
 use Rattle.text.proofs.work_input.Lts as lts
 use Rattle.text.proofs.Session.new.Reads as new-reads
 use Rattle.text.proofs.feed_as.Reads as feed-reads
-use Rattle.text.proofs.finish.Reads as finish-reads
+use Rattle.text.proofs.finish_as.Reads as finish-reads
 use Rattle.text.proofs.put_part.Reads as put-part-reads
 
 abbrev Inv-loop : tie.InvT-loop
@@ -75,24 +75,24 @@ next : (c : tie.After-feed-as Inv-loop μ-loop) (out : List ℕ) → out ≡ con
 next c out e = working-on (c .before .before .before .before .before .before .before .before .args .input .now) (c .before .before .before .before .before .before .before .before .args .out .now) (c .before .before .before .before .before .before .before .before .args .writing) (c .before .before .before .before .loop .out) out (c .before .before .before .before .loop .session) (c .before .before .before .before .loop .taken) (c .before .before .before .before .loop .size) 4096 (c .before .before .before .before .loop .inv .4) e
 
 -- the end of the input
-abbrev last : tie.After-finish Inv-loop μ-loop → Feeding
+abbrev last : tie.After-finish-as Inv-loop μ-loop → Feeding
 last c = finishing 4096 (c .before .before .before .loop .session)
 
-last-is : (c : tie.After-finish Inv-loop μ-loop) → c .finish .result ≡ fedOf (last c)
-last-is c = c .finish .ensures .0 ∙ ap (λ n. fedOf (finishing n (c .before .before .before .loop .session))) (c .before .before .before .loop .inv .2)
+last-is : (c : tie.After-finish-as Inv-loop μ-loop) → c .finish-as .result ≡ fedOf (last c)
+last-is c = c .finish-as .ensures .0 ∙ ap (λ n. fedOf (finishing n (c .before .before .before .loop .session))) (c .before .before .before .loop .inv .2)
 
-last-long : (c : tie.After-finish Inv-loop μ-loop) → length (c .finish .last .1 .0) ≡ 4096
+last-long : (c : tie.After-finish-as Inv-loop μ-loop) → length (c .finish-as .last .1 .0) ≡ 4096
 last-long c = search needs
 
-last-most : (c : tie.After-finish Inv-loop μ-loop) → c .finish .result .written ≤ 4096
-last-most c = rw (← c .before .before .before .loop .inv .2) (c .finish .ensures .1 .1)
+last-most : (c : tie.After-finish-as Inv-loop μ-loop) → c .finish-as .result .written ≤ 4096
+last-most c = rw (← c .before .before .before .loop .inv .2) (c .finish-as .ensures .1 .1)
 
-last-part : (c : tie.After-finish Inv-loop μ-loop) → take (c .finish .result .written) (c .finish .last .1 .0) ≡ last c .output
+last-part : (c : tie.After-finish-as Inv-loop μ-loop) → take (c .finish-as .result .written) (c .finish-as .last .1 .0) ≡ last c .output
 last-part c =
-    let count : c .finish .result .written ≡ length (last c .output) = ap (λ (f : Fed). f .written) (last-is c) in
-    ap (λ n. take n (c .finish .last .1 .0)) count ∙ ap (take (length (last c .output))) (c .finish .ensures .1 .0 ∙ ap (λ n. written (c .before .before .before .loop .space) 0 (finishing n (c .before .before .before .loop .session) .output)) (c .before .before .before .loop .inv .2)) ∙ shown-part (c .before .before .before .loop .space) (last c .output) (omega (arith, count, last-most c, c .before .before .before .loop .inv .2))
+    let count : c .finish-as .result .written ≡ length (last c .output) = ap (λ (f : Fed). f .written) (last-is c) in
+    ap (λ n. take n (c .finish-as .last .1 .0)) count ∙ ap (take (length (last c .output))) (c .finish-as .ensures .1 .0 ∙ ap (λ n. written (c .before .before .before .loop .space) 0 (finishing n (c .before .before .before .loop .session) .output)) (c .before .before .before .loop .inv .2)) ∙ shown-part (c .before .before .before .loop .space) (last c .output) (omega (arith, count, last-most c, c .before .before .before .loop .inv .2))
 
-done : (c : tie.After-finish Inv-loop μ-loop) (out : List ℕ) → out ≡ cond (c .before .before .before .before .before .before .before .args .writing) (written (c .before .before .before .loop .out) (c .before .before .before .loop .size) (last c .output)) (c .before .before .before .loop .out) → Worked (c .before .before .before .before .before .before .before .args .input .now) (c .before .before .before .before .before .before .before .args .out .now) (c .before .before .before .before .before .before .before .args .writing) out (last c .session .account) (c .before .before .before .loop .size + length (last c .output))
+done : (c : tie.After-finish-as Inv-loop μ-loop) (out : List ℕ) → out ≡ cond (c .before .before .before .before .before .before .before .args .writing) (written (c .before .before .before .loop .out) (c .before .before .before .loop .size) (last c .output)) (c .before .before .before .loop .out) → Worked (c .before .before .before .before .before .before .before .args .input .now) (c .before .before .before .before .before .before .before .args .out .now) (c .before .before .before .before .before .before .before .args .writing) out (last c .session .account) (c .before .before .before .loop .size + length (last c .output))
 done c out e = working-end (c .before .before .before .before .before .before .before .args .input .now) (c .before .before .before .before .before .before .before .args .out .now) (c .before .before .before .before .before .before .before .args .writing) (c .before .before .before .loop .out) out (c .before .before .before .loop .session) (c .before .before .before .loop .taken) (c .before .before .before .loop .size) 4096 (omega arith) (omega arith) (c .before .before .before .loop .inv .4) e
 
 room : (c : tie.After-feed-as Inv-loop μ-loop) → c .before .before .before .before .before .before .before .before .args .writing ≡ true → c .before .before .before .before .loop .size + length (take (c .feed-as .result .written) (c .feed-as .last .1 .1 .0)) ≤ length (c .before .before .before .before .loop .out)
@@ -103,7 +103,7 @@ room c e =
 put-length : (c : tie.After-put-part Inv-loop μ-loop) → length (c .put-part .last .1 .0) ≡ length (c .before .before .before .before .before .before .before .before .loop .out)
 put-length c = search needs
 
-last-room : (c : tie.After-finish Inv-loop μ-loop) → c .before .before .before .before .before .before .before .args .writing ≡ true → c .before .before .before .loop .size + length (take (c .finish .result .written) (c .finish .last .1 .0)) ≤ length (c .before .before .before .loop .out)
+last-room : (c : tie.After-finish-as Inv-loop μ-loop) → c .before .before .before .before .before .before .before .args .writing ≡ true → c .before .before .before .loop .size + length (take (c .finish-as .result .written) (c .finish-as .last .1 .0)) ≤ length (c .before .before .before .loop .out)
 last-room c e =
     let w = done c (cond (c .before .before .before .before .before .before .before .args .writing) (written (c .before .before .before .loop .out) (c .before .before .before .loop .size) (last c .output)) (c .before .before .before .loop .out)) refl in
     rw (last-part c) (omega (arith, w .size-is, c .before .before .before .before .before .before .before .pre .1 e, c .before .before .before .loop .inv .1))
@@ -174,12 +174,12 @@ loop-again c = (
 )
 
 -- src/lib.rt:206:32
-slice-aggregate-finish : tie.Need-slice-aggregate-finish Inv-loop μ-loop
+slice-aggregate-finish : tie.Need-slice-aggregate-finish-as Inv-loop μ-loop
 slice-aggregate-finish c = sym (c .before .before .loop .inv .2)
 
 -- src/lib.rt:206:9
-finish-requires : tie.Need-finish-requires Inv-loop μ-loop
-finish-requires c κs = tt
+finish-requires : tie.Need-finish-as-requires Inv-loop μ-loop
+finish-requires c κs = λ _. reached-lines (c .before .before .loop .session .account) (linesIn [] (take (c .before .before .loop .taken) (c .before .before .before .before .before .before .args .input .now))) (c .before .before .loop .inv .4 .stands .account-is)
 
 -- src/lib.rt:208:14
 array-share-prefix-space-2 : tie.Need-array-share-prefix-space-2 Inv-loop μ-loop
@@ -187,7 +187,7 @@ array-share-prefix-space-2 c = rw (last-long (c .before)) (last-most (c .before)
 
 -- src/lib.rt:208:14
 slice-aggregate-put-part-2 : tie.Need-slice-aggregate-put-part-2 Inv-loop μ-loop
-slice-aggregate-put-part-2 c = sym (length-take-le (c .before .before .finish .result .written) (c .before .before .finish .last .1 .0) (rw (last-long (c .before .before)) (last-most (c .before .before))))
+slice-aggregate-put-part-2 c = sym (length-take-le (c .before .before .finish-as .result .written) (c .before .before .finish-as .last .1 .0) (rw (last-long (c .before .before)) (last-most (c .before .before))))
 
 -- src/lib.rt:208:5
 put-part-requires-2 : tie.Need-put-part-requires-2 Inv-loop μ-loop
