@@ -107,7 +107,7 @@ add-taken-2 c = omega arith
 
 -- src/lib.rt:83:13
 array-write-line : tie.Need-array-write-line Inv-loop μ-loop
-array-write-line c = c .if3 .taken
+array-write-line c = omega (arith, c .if3 .taken)
 
 -- src/lib.rt:84:13
 add-length : tie.Need-add-length Inv-loop μ-loop

@@ -1,4 +1,5 @@
 use mathlib.Core.Path.{sym}
+use native.Mathlib.Omega.{arith}
 use Rattle.wire.proofs.Digits.{decimal, letter, below-digits, between-digits, past-digits}
 use borrow.Author.Needs.{needs}
 use Rattle.wire.proofs.digit_or.Statement.{statement}
@@ -16,7 +17,7 @@ returns-2 c = sym (decimal (c .before .before .args .character) (c .before .if1 
 
 -- src/lib.rt:29:9
 returns-3 : tie.Need-returns-3
-returns-3 c = sym (between-digits (c .before .before .before .args .character) (c .before .if2 .left) (c .if3 .taken))
+returns-3 c = sym (between-digits (c .before .before .before .args .character) (c .before .if2 .left) (omega (arith, c .if3 .taken)))
 
 -- src/lib.rt:32:16
 sub-result : tie.Need-sub-result
