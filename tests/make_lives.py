@@ -485,7 +485,7 @@ def _(a):
 # --- Ledger -----------------------------------------------------------------
 
 
-@life("every_call", "a life through 01 to 07, 09 and 0a, with a meter change over misses and interest twice")
+@life("nine_calls", "a life through 01 to 07, 09 and 0a, with a meter change over misses and interest twice")
 def _(a):
     a(opening(0, 100, 4))
     a(read(29, 130), volumes=[30], net=6_650, unpaid=6_650)
