@@ -1,4 +1,12 @@
 // Reads standard input to its end and feeds it to the account, in blocks of 64 KiB.
+ghost use mathlib.Core.Path.{_≡_};
+ghost use mathlib.Core.Bool.{true};
+ghost use mathlib.Core.List.{List, _++_};
+ghost use Prim.Native.Nat.{ℕ};
+ghost use Rattle.account.specs.Calls.{newAccount};
+ghost use Rattle.text.specs.Lines.{linesOf};
+ghost use Rattle.text.specs.Output.{accountAfter};
+ghost use Rattle.text.specs.Pieces.{Follows};
 ghost use Rattle.text.specs.Reached.{Reached};
 use libc::STDIN_FILENO;
 use libc::STDOUT_FILENO;
@@ -7,7 +15,7 @@ use text::Session;
 // Where a run stands: sound until a read or a write fails.
 pub struct Run {
     pub session: Session,
-    pub is_sound: bool,
+    pub sound: bool,
 }
 
 // Writes what is to be printed, and says where that fails.
@@ -26,6 +34,7 @@ fn print(text: &[u8], is_printing: bool) -> bool {
 fn feed_block(session: Session, block: &[u8], is_printing: bool) -> Run
     requires { ⌜ Reached (session .account) ⌝ }
     ensures { λ r. ⌜ Reached (r .session .account) ⌝ }
+    ensures { λ r. ⌜ (r .sound ≡ true → (seen : List ℕ) → Follows seen session → Follows (seen ++ now (block .entry)) (r .session)) ⌝ }
 {
     let mut session = session;
     let mut out = io::large_buffer();
@@ -38,26 +47,27 @@ fn feed_block(session: Session, block: &[u8], is_printing: bool) -> Run
         if !print(&out[..written], is_printing) {
             return Run {
                 session,
-                is_sound: false,
+                sound: false,
             };
         }
     }
     Run {
         session,
-        is_sound: true,
+        sound: true,
     }
 }
 
 // The end of the input.
 fn end_input(session: Session, is_printing: bool) -> Run
     requires { ⌜ Reached (session .account) ⌝ }
+    ensures { λ r. ⌜ ((seen : List ℕ) → Follows seen session → r .session .account ≡ accountAfter newAccount (linesOf seen)) ⌝ }
 {
     let mut out = [0u8; 117];
     let fed = text::finish_as(session, &mut out, true);
     let written = fed.written;
-    let is_sound = print(&out[..written], is_printing);
+    let sound = print(&out[..written], is_printing);
     let session = fed.session;
-    Run { session, is_sound }
+    Run { session, sound }
 }
 
 // Feeds all of standard input. What a failed read leaves half read is not taken for a line.
@@ -73,7 +83,7 @@ pub fn feed_input(is_printing: bool) -> Run {
             os::fail(b"standard input");
             return Run {
                 session,
-                is_sound: false,
+                sound: false,
             };
         }
         if got == 0 {
@@ -81,13 +91,13 @@ pub fn feed_input(is_printing: bool) -> Run {
         }
         let count = io::count(got, &block);
         let fed = feed_block(session, &block[..count], is_printing);
-        if !fed.is_sound {
+        if !fed.sound {
             return fed;
         }
         session = fed.session;
     }
     Run {
         session,
-        is_sound: false,
+        sound: false,
     }
 }

@@ -3,7 +3,7 @@ use libc::STDOUT_FILENO;
 
 fn main() {
     let run = driver::feed_input(false);
-    if !run.is_sound {
+    if !run.sound {
         return;
     }
     let mut out = [0u8; 2520];

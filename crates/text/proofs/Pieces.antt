@@ -21,15 +21,9 @@ use Rattle.text.specs.declared.Session.{Session}
 use Rattle.text.specs.Lines.{linesFrom, linesOf}
 use Rattle.text.specs.Output.{parsedOutcome, lineOutcome, answersOf, accountAfter, bill}
 use Rattle.text.specs.Feeding.{fresh, lineOf, kept, lineEnds, ended, Feeding, nothing, behind, feeding, finishing}
-use Rattle.text.specs.Pieces.{linesIn, partAfter, Piece, sessionAfter, takenOf, writtenOf}
+use Rattle.text.specs.Pieces.{linesIn, partAfter, made, Holds, Stands, Follows, Piece, sessionAfter, takenOf, writtenOf}
 use Rattle.text.proofs.Feeding.{feed-ends, finish-none, finish-line}
 use Rattle.text.proofs.Lines.{lines-split, lines-on, part-on, answers-behind, account-behind}
-
--- A session that keeps the first characters of a part of a line.
-pub record Holds (s : Session) (part : List ℕ) : Type 0 where
-  pub line-is : lineOf s ≡ take 31 part
-  pub length-is : s .length ≡ min (length part) 31
-  pub line-long : length (s .line) ≡ 31
 
 pub holds-fresh : Holds fresh []
 holds-fresh = record { line-is = refl; length-is = refl; line-long = refl }
@@ -110,12 +104,6 @@ went (c ∷ cs) room s part h =
     go true false e ends on = went-end s part c cs (feeding (room - length (answerLine (lineEnds s .answer))) (ended s) cs) h e ends
     go false r e ends on = went-kept s part c cs (feeding room (kept s c) cs) e (kept-account s c) on
 
--- Where feeding stands: what was taken, and what was written for it.
-pub record Stands (seen out : List ℕ) (s : Session) : Type 0 where
-  pub holds : Holds s (partAfter [] seen)
-  pub account-is : s .account ≡ accountAfter newAccount (linesIn [] seen)
-  pub out-is : out ≡ joined answerLine (answersOf newAccount (linesIn [] seen))
-
 pub stands-start : Stands [] [] fresh
 unfolding partAfter linesIn accountAfter answersOf
 stands-start = record { holds = holds-fresh; account-is = refl; out-is = refl }
@@ -190,6 +178,20 @@ stands-end seen out s room r w = go (eqb (s .length) 0) refl
     go false e =
         let n = eqb-false (s .length) 0 e in
         rw (finish-line room s n, feed-ends room s lineFeed [] refl r) (ended-line seen out s (feeding (room - length (answerLine (lineEnds s .answer))) (ended s) []) w n (fed-none (room - length (answerLine (lineEnds s .answer))) (ended s)))
+
+pub made-is : (seen out : List ℕ) (s : Session) → Stands seen out s → out ≡ made seen
+unfolding made
+made-is seen out s w = w .out-is
+
+-- A session that follows what was taken follows one more piece, as far as it was taken.
+pub follows-start : Follows [] fresh
+follows-start = rw (← made-is [] [] fresh stands-start) stands-start
+
+pub follows-on : (seen : List ℕ) (s : Session) (room : ℕ) (bytes : List ℕ) → Follows seen s → Follows (seen ++ take (feeding room s bytes .taken) bytes) (feeding room s bytes .session)
+follows-on seen s room bytes w =
+    let f = feeding room s bytes in
+    let next = stands-on seen (made seen) s room bytes w in
+    rw (← made-is (seen ++ take (f .taken) bytes) (made seen ++ f .output) (f .session) next) next
 
 -- Pieces of any sizes, cut anywhere, with any room: what they make, with what the end makes behind it, is what `bill` writes for all that was taken.
 stands-all : (pieces : List Piece) (seen out : List ℕ) (s : Session) → Stands seen out s → Stands (seen ++ takenOf s pieces) (out ++ writtenOf s pieces) (sessionAfter s pieces)

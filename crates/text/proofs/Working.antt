@@ -18,9 +18,9 @@ use Rattle.text.specs.declared.Session.{Session}
 use Rattle.text.specs.Lines.{linesFrom, linesOf}
 use Rattle.text.specs.Output.{answersOf, accountAfter, bill}
 use Rattle.text.specs.Feeding.{fresh, feeding, finishing}
-use Rattle.text.specs.Pieces.{linesIn, partAfter, made}
+use Rattle.text.specs.Pieces.{linesIn, partAfter, made, Follows}
 use Rattle.text.proofs.Lines.{lines-split, answers-behind}
-use Rattle.text.proofs.Pieces.{Stands, stands-start, stands-on, Ended, stands-end}
+use Rattle.text.proofs.Pieces.{follows-start, stands-on, made-is, Ended, stands-end}
 
 -- What was written is what stands in its place.
 pub shown-part : (text xs : List ℕ) → length xs ≤ length text → take (length xs) (written text 0 xs) ≡ xs
@@ -39,7 +39,7 @@ made-within input n =
 
 -- Where the work stands after so many bytes.
 pub record Working (input text : List ℕ) (writing : Bool) (out : List ℕ) (s : Session) (taken size : ℕ) : Type 0 where
-  pub stands : Stands (take taken input) (made (take taken input)) s
+  pub stands : Follows (take taken input) s
   pub size-is : size ≡ length (made (take taken input))
   pub out-is : out ≡ cond writing (written text 0 (made (take taken input))) text
 
@@ -48,7 +48,7 @@ unfolding made linesIn answersOf
 made-none = refl
 
 pub working-start : (input text : List ℕ) (writing : Bool) → Working input text writing text fresh 0 0
-working-start input text writing = record { stands = rw made-none stands-start; size-is = rw made-none refl; out-is = rw made-none (either writing) }
+working-start input text writing = record { stands = follows-start; size-is = rw made-none refl; out-is = rw made-none (either writing) }
   where
     either : (w : Bool) → text ≡ cond w text text
     either true = refl
@@ -58,10 +58,6 @@ working-start input text writing = record { stands = rw made-none stands-start; 
 written-more : (writing : Bool) (text one two xs ys : List ℕ) (n : ℕ) → length xs ≡ n → one ≡ cond writing (written text 0 xs) text → two ≡ cond writing (written one n ys) one → two ≡ cond writing (written text 0 (xs ++ ys)) text
 written-more true text one two xs ys n l e f = f ∙ ap (λ t. written t n ys) e ∙ ap (λ m. written (written text 0 xs) m ys) (sym l ∙ sym (zero-add (length xs))) ∙ sym (written-behind text 0 xs ys)
 written-more false text one two xs ys n l e f = f ∙ e
-
-made-is : (seen : List ℕ) (out : List ℕ) (s : Session) → Stands seen out s → out ≡ made seen
-unfolding made
-made-is seen out s w = w .out-is
 
 pub working-on : (input text : List ℕ) (writing : Bool) (out out′ : List ℕ) (s : Session) (taken size room : ℕ) → Working input text writing out s taken size → out′ ≡ cond writing (written out size (feeding room s (drop taken input) .output)) out → Working input text writing out′ (feeding room s (drop taken input) .session) (taken + feeding room s (drop taken input) .taken) (size + length (feeding room s (drop taken input) .output))
 working-on input text writing out out′ s taken size room w e =

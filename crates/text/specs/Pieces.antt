@@ -2,9 +2,9 @@
 use mathlib.Core.Path.{_≡_}
 use mathlib.Core.Bool.{cond}
 use mathlib.Core.List.{List, [], _∷_, _++_}
-use Prim.Native.Nat.{ℕ, _+_}
+use Prim.Native.Nat.{ℕ, _+_, min}
 use lib.Dec.{eqb}
-use lib.ListN.{take}
+use lib.ListN.{length, take}
 use Rattle.lists.specs.Sum.{total}
 use Rattle.lists.specs.Joined.{joined}
 use Rattle.account.specs.Calls.{newAccount}
@@ -13,7 +13,7 @@ use Rattle.audit.specs.Claim.{Run, start, run, finalVolume, unpaidOn}
 use Rattle.wire.specs.Answers.{lineFeed, answerLine}
 use Rattle.text.specs.declared.Session.{Session}
 use Rattle.text.specs.Output.{answersOf, accountAfter, callsOf}
-use Rattle.text.specs.Feeding.{feeding}
+use Rattle.text.specs.Feeding.{lineOf, feeding}
 
 -- The lines that end in what came, behind the part of a line, and the part that it leaves.
 unfoldable pub linesIn : List ℕ → List ℕ → List (List ℕ)
@@ -27,6 +27,22 @@ partAfter part (c ∷ cs) = cond (eqb c lineFeed) (partAfter [] cs) (partAfter (
 -- What is written for the lines that end in what came.
 unfoldable pub made : List ℕ → List ℕ
 made came = joined answerLine (answersOf newAccount (linesIn [] came))
+
+-- A session that keeps the first characters of a part of a line.
+pub record Holds (s : Session) (part : List ℕ) : Type 0 where
+  pub line-is : lineOf s ≡ take 31 part
+  pub length-is : s .length ≡ min (length part) 31
+  pub line-long : length (s .line) ≡ 31
+
+-- Where feeding stands: what was taken, and what was written for it.
+pub record Stands (seen out : List ℕ) (s : Session) : Type 0 where
+  pub holds : Holds s (partAfter [] seen)
+  pub account-is : s .account ≡ accountAfter newAccount (linesIn [] seen)
+  pub out-is : out ≡ joined answerLine (answersOf newAccount (linesIn [] seen))
+
+-- A session that stands behind what was taken, all that it makes written.
+abbrev pub Follows : List ℕ → Session → Type 0
+Follows seen s = Stands seen (made seen) s
 
 -- A piece, and the room lent for what it makes.
 pub record Piece : Type 0 where

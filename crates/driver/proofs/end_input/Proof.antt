@@ -1,7 +1,10 @@
-use mathlib.Core.Path.{_≡_, sym}
+use mathlib.Core.Path.{_≡_, sym, ap, _∙_}
 use native.Mathlib.Omega.{arith}
 use lib.ListN.{length}
 use lib.Seq.{length-take-le}
+use Rattle.text.specs.declared.Fed.{Fed}
+use Rattle.text.specs.Pieces.{made}
+use Rattle.text.proofs.Pieces.{stands-end}
 use borrow.Author.Needs.{needs}
 use Rattle.driver.proofs.end_input.Statement.{statement}
 use Rattle.driver.proofs.end_input.Tie as tie
@@ -33,7 +36,7 @@ print-requires c κs = search needs
 
 -- src/lib.rt:48:1
 returns : tie.Need-returns
-returns c = search needs
+returns c = λ seen w. ap (λ (f : Fed). f .session .account) (c .before .before .before .before .finish-as .ensures .0) ∙ stands-end seen (made seen) (c .before .before .before .before .before .before .args .session) 117 (omega arith) w .account-is
 
 pub end-input-spec : {M : Type 1} → statement M
 end-input-spec =

@@ -1,12 +1,16 @@
 use mathlib.Core.Path.{_≡_, refl, sym, ap, _∙_}
-use Prim.Native.Nat.{ℕ, _-_, _≤_}
+use Prim.Native.Nat.{ℕ, _+_, _-_, _≤_}
 use native.Mathlib.Omega.{arith}
-use mathlib.Core.List.{List}
+use mathlib.Core.Bool.{false≢true}
+use mathlib.Core.List.{List, _++_, append-assoc, append-nil}
 use lib.ListN.{length, take, drop, length-drop}
 use Rattle.text.specs.declared.Fed.{Fed}
+use Rattle.text.specs.Feeding.{Feeding, feeding}
+use Rattle.text.specs.Pieces.{Follows}
 use Rattle.text.specs.Reached.{Reached}
+use Rattle.text.proofs.Pieces.{follows-on}
 use Rattle.text.proofs.Feeding.{taken-some}
-use lib.Seq.{length-take-le}
+use lib.Seq.{length-take-le, take-all, take-add}
 use borrow.Author.Needs.{needs}
 use Rattle.driver.proofs.feed_block.Statement.{statement}
 use Rattle.driver.proofs.feed_block.Tie as tie
@@ -17,7 +21,7 @@ use Rattle.io.proofs.large_buffer.Reads as large-buffer-reads
 use Rattle.text.proofs.feed_as.Reads as feed-reads
 
 abbrev Inv-loop : tie.InvT-loop
-Inv-loop block is-printing session₀ out₀ at₀ session out at = (at ≤ length block) × (length out ≡ 65536) × Reached (session .account)
+Inv-loop block is-printing session₀ out₀ at₀ session out at = (at ≤ length block) × (length out ≡ 65536) × Reached (session .account) × ((seen : List ℕ) → Follows seen session₀ → Follows (seen ++ take at block) session)
 
 abbrev μ-loop : tie.MeasureT-loop
 μ-loop block is-printing session₀ out₀ at₀ session out at = length block - at
@@ -41,13 +45,25 @@ fed-bounds c = (rw (← part-long c) (c .feed-as .ensures .1 .1 .0 .0), rw (← 
 fed-some : (c : tie.After-feed-as Inv-loop μ-loop) → 1 ≤ c .feed-as .result .taken
 fed-some c = rw (ap (λ (f : Fed). f .taken) (c .feed-as .ensures .0)) (taken-some (length (c .before .before .before .before .loop .out)) (c .before .before .before .before .loop .session) (part c) (rw (c .before .before .before .before .loop .inv .1) (omega arith)) (rw (part-long c) (omega arith)))
 
+-- the session follows the block as far as it was fed
+fed-on : (c : tie.After-feed-as Inv-loop μ-loop) (seen : List ℕ) → Follows seen (c .before .before .before .before .before .before .before .args .session) → Follows (seen ++ take (c .before .before .before .before .loop .at + c .feed-as .result .taken) (c .before .before .before .before .before .before .before .args .block .now)) (c .feed-as .result .session)
+fed-on c seen w =
+    let block = c .before .before .before .before .before .before .before .args .block .now in
+    let at = c .before .before .before .before .loop .at in
+    let long = length-drop at block in
+    let whole-part = take-all (length block - at) (drop at block) (omega (arith, long)) in
+    let f = feeding (length (c .before .before .before .before .loop .out)) (c .before .before .before .before .loop .session) (part c) in
+    let next = follows-on (seen ++ take at block) (c .before .before .before .before .loop .session) (length (c .before .before .before .before .loop .out)) (part c) (c .before .before .before .before .loop .inv .3 seen w) in
+    let bytes : (seen ++ take at block) ++ take (f .taken) (part c) ≡ seen ++ take (at + f .taken) block = append-assoc seen (take at block) (take (f .taken) (part c)) ∙ ap (λ xs. seen ++ (take at block ++ take (f .taken) xs)) whole-part ∙ ap (λ xs. seen ++ xs) (sym (take-add at (f .taken) block)) in
+    rw (c .feed-as .ensures .0, ← bytes) next
+
 -- src/lib.rt:27:19
 large-buffer-requires : tie.Need-large-buffer-requires Inv-loop μ-loop
 large-buffer-requires c κs = tt
 
 -- src/lib.rt:29:5
 loop-holds : tie.Need-loop-holds Inv-loop μ-loop
-loop-holds c = (omega arith, sym (c .large-buffer .ensures), c .before .before .pre)
+loop-holds c = (omega arith, sym (c .large-buffer .ensures), c .before .before .pre, λ seen w. rw (append-nil seen) w)
 
 -- src/lib.rt:30:39
 sub-feed : tie.Need-sub-feed-as Inv-loop μ-loop
@@ -87,7 +103,7 @@ print-requires c κs = tt
 
 -- src/lib.rt:35:13
 returns : tie.Need-returns Inv-loop μ-loop
-returns c = c .before .before .before .before .before .before .feed-as .ensures .1 .1 .1 refl
+returns c = (c .before .before .before .before .before .before .feed-as .ensures .1 .1 .1 refl, λ e. absurd (false≢true e))
 
 -- src/lib.rt:29:5
 loop-less : tie.Need-loop-less Inv-loop μ-loop
@@ -95,11 +111,14 @@ loop-less c = omega (arith, fed-bounds (c .before .before .before .before .befor
 
 -- src/lib.rt:29:5
 loop-again : tie.Need-loop-again Inv-loop μ-loop
-loop-again c = (omega (arith, fed-bounds (c .before .before .before .before .before .before)), out-length (c .before .before .before .before .before .before), c .before .before .before .before .before .before .feed-as .ensures .1 .1 .1 refl)
+loop-again c = (omega (arith, fed-bounds (c .before .before .before .before .before .before)), out-length (c .before .before .before .before .before .before), c .before .before .before .before .before .before .feed-as .ensures .1 .1 .1 refl, λ seen w. fed-on (c .before .before .before .before .before .before) seen w)
 
 -- src/lib.rt:25:1
 returns-2 : tie.Need-returns-2 Inv-loop μ-loop
-returns-2 c = c .before .loop .inv .2
+returns-2 c = (
+  c .before .loop .inv .2,
+  λ _ seen w. rw (← take-all (c .before .loop .at) (c .before .before .before .before .args .block .now) (omega arith)) (c .before .loop .inv .3 seen w),
+)
 
 pub feed-block-spec : {M : Type 1} → statement M
 feed-block-spec =
