@@ -1,8 +1,8 @@
 -- Laws of feeding. Assumes nothing.
 use mathlib.Core.Path.{_≡_, refl, sym, ap, _∙_}
 use mathlib.Core.Bool.{Bool, true, false}
-use mathlib.Core.List.{List, [], _∷_, _++_}
-use Prim.Native.Nat.{ℕ, zero, suc, _+_, _-_, _*_, min, _≤_, _<_}
+use mathlib.Core.List.{List, [], _∷_}
+use Prim.Native.Nat.{ℕ, suc, _+_, _-_, _*_, min, _≤_, _<_}
 use native.Mathlib.Nat.{not-suc-le-zero, zero-add, add-zero, min-eq-left, min-eq-right, le-of-lt}
 use native.Mathlib.Omega.{arith}
 use native.Mathlib.Numerals.{add-one}
@@ -19,9 +19,8 @@ use Rattle.wire.specs.Answers.{lineFeed, answerLine, longestAnswer}
 use Rattle.wire.specs.Notices.{noticeLine}
 use Rattle.wire.proofs.Writing.{written-behind, length-notice}
 use Rattle.text.specs.declared.Session.{Session}
-use Rattle.text.specs.declared.Fed.{Fed}
 use Rattle.text.specs.Output.{noticesOf}
-use Rattle.text.specs.Feeding.{keptMost, lineOf, kept, lineEnds, ended, Feeding, nothing, behind, feeding, finishing, fedOf}
+use Rattle.text.specs.Feeding.{kept, lineEnds, ended, Feeding, nothing, behind, feeding, finishing, fedOf}
 
 abbrev pub session : Account → ℕ → List ℕ → Session
 session account long line = record { account = account; length = long; line = line }

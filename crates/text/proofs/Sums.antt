@@ -5,17 +5,15 @@ use Prim.Native.Nat.{ℕ, _+_}
 use native.Mathlib.Nat.{zero-add, add-zero}
 use native.Mathlib.Omega.{arith}
 use Rattle.lists.specs.Sum.{total}
-use Rattle.account.specs.declared.Account.{Account}
 use Rattle.account.specs.declared.Call.{Call}
 use Rattle.account.specs.Calls.{newAccount}
-use Rattle.account.specs.Outcomes.{outcome}
-use Rattle.audit.specs.Claim.{Run, start, step, run, finalVolume, unpaidOn, Reconciled}
+use Rattle.audit.specs.Claim.{Run, start, step, run, finalVolume}
 use Rattle.audit.proofs.Theorem.{reconciled}
 use Rattle.wire.specs.declared.Parsed.{Parsed}
 use Rattle.wire.specs.declared.Parsed.the-variants.{Frame, NotAFrame}
 use Rattle.wire.specs.Frames.{parsed}
-use Rattle.text.specs.Output.{parsedOutcome, lineOutcome, answersOf, accountAfter, callsIn, callsOf}
-use Rattle.text.specs.Pieces.{bookOf, Sums}
+use Rattle.text.specs.Output.{parsedOutcome, answersOf, accountAfter, callsIn, callsOf}
+use Rattle.text.specs.Pieces.{Sums}
 
 -- The account that lines leave is the one that their calls leave: a line that is no frame changes nothing.
 pub account-run : (lines : List (List ℕ)) (r : Run) → accountAfter (r .account) lines ≡ run r (callsOf lines) .account

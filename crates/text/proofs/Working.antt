@@ -1,11 +1,11 @@
 -- A whole input worked in pieces. Assumes nothing.
 use mathlib.Core.Path.{_≡_, refl, sym, ap, _∙_}
 use mathlib.Core.Bool.{Bool, true, false, cond}
-use mathlib.Core.List.{List, [], _∷_, _++_}
-use Prim.Native.Nat.{ℕ, _+_, _-_, _*_, _≤_}
+use mathlib.Core.List.{List, [], _++_}
+use Prim.Native.Nat.{ℕ, _+_, _-_, _≤_}
 use native.Mathlib.Nat.{zero-add}
 use native.Mathlib.Omega.{arith}
-use lib.ListN.{length, take, drop, length-append, take-append-drop, length-drop}
+use lib.ListN.{length, take, drop, length-append, take-append-drop}
 use lib.Seq.{take-all, take-add, take-append-seam, sets-eq}
 use Rattle.lists.specs.Joined.{joined}
 use Rattle.lists.proofs.Joined.{joined-behind}
@@ -20,7 +20,7 @@ use Rattle.text.specs.Output.{answersOf, accountAfter, bill}
 use Rattle.text.specs.Feeding.{fresh, feeding, finishing}
 use Rattle.text.specs.Pieces.{linesIn, partAfter, made, Follows}
 use Rattle.text.proofs.Lines.{lines-split, answers-behind}
-use Rattle.text.proofs.Pieces.{follows-start, stands-on, made-is, Ended, stands-end}
+use Rattle.text.proofs.Pieces.{follows-start, stands-on, made-is, stands-end}
 
 -- What was written is what stands in its place.
 pub shown-part : (text xs : List ℕ) → length xs ≤ length text → take (length xs) (written text 0 xs) ≡ xs

@@ -9,7 +9,7 @@ use Rattle.lists.specs.Sum.{total}
 use Rattle.lists.specs.Joined.{joined}
 use Rattle.account.specs.Calls.{newAccount}
 use Rattle.audit.specs.Book.{Book, prices}
-use Rattle.audit.specs.Claim.{Run, start, run, finalVolume, unpaidOn}
+use Rattle.audit.specs.Claim.{start, run, finalVolume, unpaidOn}
 use Rattle.wire.specs.Answers.{lineFeed, answerLine}
 use Rattle.text.specs.declared.Session.{Session}
 use Rattle.text.specs.Output.{answersOf, accountAfter, callsOf}

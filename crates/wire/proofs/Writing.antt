@@ -1,12 +1,12 @@
 -- Laws of writing. Assumes nothing.
 use mathlib.Core.Path.{_≡_, refl, sym, ap, _∙_}
 use mathlib.Core.List.{List, [], _∷_, _++_}
-use Prim.Native.Nat.{ℕ, zero, suc, _+_, _-_, _*_, _/_, _%_, _≤_, _<_}
+use Prim.Native.Nat.{ℕ, zero, suc, _+_, _-_, _/_, _%_, _≤_}
 use native.Mathlib.Nat.{add-zero, add-suc, suc-add, not-suc-le-zero}
 use native.Mathlib.Omega.{arith}
 use native.Mathlib.Numerals.{add-one}
-use lib.ListN.{length, getD, set, take, length-append}
-use lib.Seq.{set-comm, take-suc, take-all, length-take-le}
+use lib.ListN.{length, set, take, length-append}
+use lib.Seq.{set-comm, take-all}
 use Rattle.wire.specs.Digits.{glyph, digits, bytes, written}
 use Rattle.calendar.specs.declared.FoundDate.{FoundDate}
 use Rattle.calendar.specs.Conversions.{toDate}

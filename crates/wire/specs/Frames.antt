@@ -1,6 +1,6 @@
 -- Input: a line of lower-case hexadecimal is a frame, kind (1 byte), day (2) and the fields of its kind, or it is none.
 use mathlib.Core.Bool.{cond, _&&_}
-use mathlib.Core.List.{List, [], _∷_, _++_}
+use mathlib.Core.List.{List, [], _∷_}
 use Prim.Native.Nat.{ℕ, _+_, _*_, _^_, _<_}
 use lib.Dec.{eqb}
 use lib.ListN.{length, take, drop}

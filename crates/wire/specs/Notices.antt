@@ -1,7 +1,6 @@
 -- Output of `notice`: the line of an open item.
 use mathlib.Core.List.{List, [], _∷_, _++_}
 use Prim.Native.Nat.{ℕ}
-use Rattle.calendar.specs.declared.Date.{Date}
 use Rattle.calendar.specs.declared.FoundDate.{FoundDate}
 use Rattle.calendar.specs.Conversions.{toDate}
 use Rattle.ledger.specs.declared.Kind.{Kind}

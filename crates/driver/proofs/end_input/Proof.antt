@@ -8,33 +8,23 @@ use Rattle.text.proofs.Pieces.{stands-end}
 use borrow.Author.Needs.{needs}
 use Rattle.driver.proofs.end_input.Statement.{statement}
 use Rattle.driver.proofs.end_input.Tie as tie
-use Rattle.driver.proofs.end_input.Reads as reads
-use Rattle.driver.proofs.end_input.Lts as lts
-use Rattle.driver.proofs.print.Reads as print-reads
-use Rattle.text.proofs.finish_as.Reads as finish-reads
 
--- src/lib.rt:50:37
 slice-aggregate-finish : tie.Need-slice-aggregate-finish-as
 slice-aggregate-finish c = search needs
 
--- src/lib.rt:50:9
 finish-requires : tie.Need-finish-as-requires
 finish-requires c κs = search needs
 
--- src/lib.rt:52:26
 array-share-prefix-out : tie.Need-array-share-prefix-out
 array-share-prefix-out c = search needs
 
--- src/lib.rt:52:26
 slice-aggregate-print : tie.Need-slice-aggregate-print
 slice-aggregate-print c = let long : length (c .before .before .finish-as .last .1 .0) ≡ 117 = search needs in
     sym (length-take-le (c .before .before .finish-as .result .written) (c .before .before .finish-as .last .1 .0) (omega (arith, c .before .before .finish-as .ensures .1 .1)))
 
--- src/lib.rt:52:9
 print-requires : tie.Need-print-requires
 print-requires c κs = search needs
 
--- src/lib.rt:48:1
 returns : tie.Need-returns
 returns c = λ seen w. ap (λ (f : Fed). f .session .account) (c .before .before .before .before .finish-as .ensures .0) ∙ stands-end seen (made seen) (c .before .before .before .before .before .before .args .session) 117 (omega arith) w .account-is
 

@@ -5,7 +5,7 @@ use mathlib.Core.Bool.{false≢true}
 use mathlib.Core.List.{List, _++_, append-assoc, append-nil}
 use lib.ListN.{length, take, drop, length-drop}
 use Rattle.text.specs.declared.Fed.{Fed}
-use Rattle.text.specs.Feeding.{Feeding, feeding}
+use Rattle.text.specs.Feeding.{feeding}
 use Rattle.text.specs.Pieces.{Follows}
 use Rattle.text.specs.Reached.{Reached}
 use Rattle.text.proofs.Pieces.{follows-on}
@@ -14,11 +14,6 @@ use lib.Seq.{length-take-le, take-all, take-add}
 use borrow.Author.Needs.{needs}
 use Rattle.driver.proofs.feed_block.Statement.{statement}
 use Rattle.driver.proofs.feed_block.Tie as tie
-use Rattle.driver.proofs.feed_block.Reads as reads
-use Rattle.driver.proofs.feed_block.Lts as lts
-use Rattle.driver.proofs.print.Reads as print-reads
-use Rattle.io.proofs.large_buffer.Reads as large-buffer-reads
-use Rattle.text.proofs.feed_as.Reads as feed-reads
 
 abbrev Inv-loop : tie.InvT-loop
 Inv-loop block is-printing session₀ out₀ at₀ session out at = (at ≤ length block) × (length out ≡ 65536) × Reached (session .account) × ((seen : List ℕ) → Follows seen session₀ → Follows (seen ++ take at block) session)
@@ -57,63 +52,48 @@ fed-on c seen w =
     let bytes : (seen ++ take at block) ++ take (f .taken) (part c) ≡ seen ++ take (at + f .taken) block = append-assoc seen (take at block) (take (f .taken) (part c)) ∙ ap (λ xs. seen ++ (take at block ++ take (f .taken) xs)) whole-part ∙ ap (λ xs. seen ++ xs) (sym (take-add at (f .taken) block)) in
     rw (c .feed-as .ensures .0, ← bytes) next
 
--- src/lib.rt:27:19
 large-buffer-requires : tie.Need-large-buffer-requires Inv-loop μ-loop
 large-buffer-requires c κs = tt
 
--- src/lib.rt:29:5
 loop-holds : tie.Need-loop-holds Inv-loop μ-loop
 loop-holds c = (omega arith, sym (c .large-buffer .ensures), c .before .before .pre, λ seen w. rw (append-nil seen) w)
 
--- src/lib.rt:30:39
 sub-feed : tie.Need-sub-feed-as Inv-loop μ-loop
 sub-feed c = omega arith
 
--- src/lib.rt:30:39
 part-feed-start : tie.Need-part-feed-as-start Inv-loop μ-loop
 part-feed-start c = omega arith
 
--- src/lib.rt:30:39
 part-feed-end : tie.Need-part-feed-as-end Inv-loop μ-loop
 part-feed-end c = omega arith
 
--- src/lib.rt:30:53
 slice-aggregate-feed : tie.Need-slice-aggregate-feed-as Inv-loop μ-loop
 slice-aggregate-feed c = sym (c .before .before .before .loop .inv .1)
 
--- src/lib.rt:30:13
 feed-requires : tie.Need-feed-as-requires Inv-loop μ-loop
 feed-requires c κs = λ _. c .before .before .before .loop .inv .2
 
--- src/lib.rt:33:9
 add-at : tie.Need-add-at Inv-loop μ-loop
 add-at c = omega (arith, fed-bounds (c .before .before .before))
 
--- src/lib.rt:34:19
 array-share-prefix-out : tie.Need-array-share-prefix-out Inv-loop μ-loop
 array-share-prefix-out c = rw (out-length (c .before .before .before)) (omega (arith, fed-bounds (c .before .before .before)))
 
--- src/lib.rt:34:19
 slice-aggregate-print : tie.Need-slice-aggregate-print Inv-loop μ-loop
 slice-aggregate-print c = sym (length-take-le (c .before .before .before .before .feed-as .result .written) (c .before .before .before .before .feed-as .last .1 .1 .0) (rw (out-length (c .before .before .before .before)) (omega (arith, fed-bounds (c .before .before .before .before)))))
 
--- src/lib.rt:34:13
 print-requires : tie.Need-print-requires Inv-loop μ-loop
 print-requires c κs = tt
 
--- src/lib.rt:35:13
 returns : tie.Need-returns Inv-loop μ-loop
 returns c = (c .before .before .before .before .before .before .feed-as .ensures .1 .1 .1 refl, λ e. absurd (false≢true e))
 
--- src/lib.rt:29:5
 loop-less : tie.Need-loop-less Inv-loop μ-loop
 loop-less c = omega (arith, fed-bounds (c .before .before .before .before .before .before), fed-some (c .before .before .before .before .before .before))
 
--- src/lib.rt:29:5
 loop-again : tie.Need-loop-again Inv-loop μ-loop
 loop-again c = (omega (arith, fed-bounds (c .before .before .before .before .before .before)), out-length (c .before .before .before .before .before .before), c .before .before .before .before .before .before .feed-as .ensures .1 .1 .1 refl, λ seen w. fed-on (c .before .before .before .before .before .before) seen w)
 
--- src/lib.rt:25:1
 returns-2 : tie.Need-returns-2 Inv-loop μ-loop
 returns-2 c = (
   c .before .loop .inv .2,

@@ -5,15 +5,6 @@ use Rattle.text.proofs.Reached.{reached-new}
 use borrow.Author.Needs.{needs}
 use Rattle.driver.proofs.feed_input.Statement.{statement}
 use Rattle.driver.proofs.feed_input.Tie as tie
-use Rattle.driver.proofs.feed_input.Reads as reads
-use Rattle.driver.proofs.feed_input.Lts as lts
-use Rattle.driver.proofs.end_input.Reads as end-input-reads
-use Rattle.driver.proofs.feed_block.Reads as feed-block-reads
-use Rattle.io.proofs.count.Reads as count-reads
-use Rattle.io.proofs.large_buffer.Reads as large-buffer-reads
-use Rattle.libc.proofs.read.Reads as read-reads
-use Rattle.os.proofs.fail.Reads as fail-reads
-use Rattle.text.proofs.Session.new.Reads as new-reads
 
 abbrev Inv-loop : tie.InvT-loop
 Inv-loop is-printing session₀ block₀ turns₀ t8 session block turns = (length block ≡ 65536) × Reached (session .account)
@@ -21,83 +12,63 @@ Inv-loop is-printing session₀ block₀ turns₀ t8 session block turns = (leng
 abbrev μ-loop : tie.MeasureT-loop
 μ-loop is-printing session₀ block₀ turns₀ t8 session block turns = turns
 
--- src/lib.rt:62:9
 new-requires : tie.Need-new-requires Inv-loop μ-loop
 new-requires c κs = search needs
 
--- src/lib.rt:63:21
 large-buffer-requires : tie.Need-large-buffer-requires Inv-loop μ-loop
 large-buffer-requires c κs = search needs
 
--- src/lib.rt:66:5
 loop-holds : tie.Need-loop-holds Inv-loop μ-loop
 loop-holds c = (sym (c .large-buffer .ensures), rw (c .before .new .ensures) reached-new)
 
--- src/lib.rt:67:9
 sub-turns : tie.Need-sub-turns Inv-loop μ-loop
 sub-turns c = search needs
 
--- src/lib.rt:68:44
 slice-aggregate-read : tie.Need-slice-aggregate-read Inv-loop μ-loop
 slice-aggregate-read c = search needs
 
--- src/lib.rt:68:13
 read-requires : tie.Need-read-requires Inv-loop μ-loop
 read-requires c κs = search needs
 
--- src/lib.rt:70:22
 slice-aggregate-fail : tie.Need-slice-aggregate-fail Inv-loop μ-loop
 slice-aggregate-fail c = search needs
 
--- src/lib.rt:70:13
 fail-requires : tie.Need-fail-requires Inv-loop μ-loop
 fail-requires c κs = search needs
 
--- src/lib.rt:71:13
 returns : tie.Need-returns Inv-loop μ-loop
 returns c = search needs
 
--- src/lib.rt:77:13
 end-input-requires : tie.Need-end-input-requires Inv-loop μ-loop
 end-input-requires c κs = search needs
 
--- src/lib.rt:77:13
 returns-2 : tie.Need-returns-2 Inv-loop μ-loop
 returns-2 c = search needs
 
--- src/lib.rt:79:36
 slice-aggregate-count : tie.Need-slice-aggregate-count Inv-loop μ-loop
 slice-aggregate-count c = search needs
 
--- src/lib.rt:79:13
 count-requires : tie.Need-count-requires Inv-loop μ-loop
 count-requires c κs = search needs
 
--- src/lib.rt:80:39
 array-share-prefix-block : tie.Need-array-share-prefix-block Inv-loop μ-loop
 array-share-prefix-block c = search needs
 
--- src/lib.rt:80:39
 slice-aggregate-feed-block : tie.Need-slice-aggregate-feed-block Inv-loop μ-loop
 slice-aggregate-feed-block c = search needs
 
--- src/lib.rt:80:13
 feed-block-requires : tie.Need-feed-block-requires Inv-loop μ-loop
 feed-block-requires c κs = search needs
 
--- src/lib.rt:82:13
 returns-3 : tie.Need-returns-3 Inv-loop μ-loop
 returns-3 c = search needs
 
--- src/lib.rt:66:5
 loop-less : tie.Need-loop-less Inv-loop μ-loop
 loop-less c = search needs
 
--- src/lib.rt:66:5
 loop-again : tie.Need-loop-again Inv-loop μ-loop
 loop-again c = search needs
 
--- src/lib.rt:61:1
 returns-4 : tie.Need-returns-4 Inv-loop μ-loop
 returns-4 c = search needs
 

@@ -5,59 +5,41 @@ use lib.Seq.{length-take-le}
 use borrow.Author.Needs.{needs}
 use Rattle.notice.proofs.main.Statement.{statement}
 use Rattle.notice.proofs.main.Tie as tie
-use Rattle.notice.proofs.main.Reads as reads
-use Rattle.notice.proofs.main.Lts as lts
-use Rattle.driver.proofs.feed_input.Reads as feed-input-reads
-use Rattle.io.proofs.write_all.Reads as write-all-reads
-use Rattle.os.proofs.fail.Reads as fail-reads
-use Rattle.text.proofs.put_notices.Reads as put-notices-reads
 
--- src/main.rt:5:9
 feed-input-requires : tie.Need-feed-input-requires
 feed-input-requires c κs = search needs
 
--- src/main.rt:7:9
 returns : tie.Need-returns
 returns c = search needs
 
--- src/main.rt:10:55
 slice-aggregate-put-notices : tie.Need-slice-aggregate-put-notices
 slice-aggregate-put-notices c = search needs
 
--- src/main.rt:10:9
 put-notices-requires : tie.Need-put-notices-requires
 put-notices-requires c κs = search needs
 
--- src/main.rt:12:42
 array-share-prefix-out : tie.Need-array-share-prefix-out
 array-share-prefix-out c = search needs
 
--- src/main.rt:12:42
 slice-aggregate-write-all : tie.Need-slice-aggregate-write-all
 slice-aggregate-write-all c = let long : length (c .before .before .before .put-notices .last .1 .0) ≡ 2520 = search needs in
     sym (length-take-le (c .before .before .before .put-notices .result) (c .before .before .before .put-notices .last .1 .0) (omega (arith, long, c .before .if2 .taken)))
 
--- src/main.rt:12:13
 write-all-requires : tie.Need-write-all-requires
 write-all-requires c κs = search needs
 
--- src/main.rt:13:22
 slice-aggregate-fail : tie.Need-slice-aggregate-fail
 slice-aggregate-fail c = search needs
 
--- src/main.rt:13:13
 fail-requires : tie.Need-fail-requires
 fail-requires c κs = search needs
 
--- src/main.rt:4:1
 returns-2 : tie.Need-returns-2
 returns-2 c = search needs
 
--- src/main.rt:4:1
 returns-3 : tie.Need-returns-3
 returns-3 c = search needs
 
--- src/main.rt:4:1
 returns-4 : tie.Need-returns-4
 returns-4 c = search needs
 

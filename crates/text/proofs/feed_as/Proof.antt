@@ -15,11 +15,6 @@ use Rattle.text.proofs.Reached.{reached-whole, reached-line}
 use Rattle.text.proofs.Feeding.{session, Ahead, ahead-start, ahead-done, ahead-text, take-min, kept-within, kept-full, line-ended, line-waits, byte-kept, input-ended}
 use Rattle.text.proofs.feed_as.Statement.{statement}
 use Rattle.text.proofs.feed_as.Tie as tie
-use Rattle.text.proofs.feed_as.Reads as reads
-use Rattle.text.proofs.feed_as.Lts as lts
-use Rattle.text.proofs.answer_line.Reads as answer-line-reads
-use Rattle.text.proofs.shown_length.Reads as shown-length-reads
-use Rattle.wire.proofs.put_answer.Reads as put-answer-reads
 
 abbrev Inv-loop : tie.InvT-loop
 Inv-loop input out₀ known account₀ length₀ line₀ taken₀ written₀ out account kept-length line taken written =
@@ -40,57 +35,44 @@ line-is c = let long : length (c .before .before .before .before .before .before
 put-length : (c : tie.After-put-answer Inv-loop μ-loop) → length (c .put-answer .last .1 .0) ≡ length (c .before .before .before .before .before .before .before .before .before .loop .out)
 put-length c = search needs
 
--- src/lib.rt:59:5
 loop-holds : tie.Need-loop-holds Inv-loop μ-loop
 loop-holds c = (omega arith, omega arith, refl, search needs, rw (sub-zero (length (c .before .before .before .before .args .out .now))) (ahead-start (feeding (length (c .before .before .before .before .args .out .now)) (c .before .before .before .before .args .session) (c .before .before .before .before .args .input .now)) (c .before .before .before .before .args .out .now)), c .before .before .before .before .pre)
 
--- src/lib.rt:60:25
 shared-slice-read-character : tie.Need-shared-slice-read-character Inv-loop μ-loop
 shared-slice-read-character c = omega arith
 
--- src/lib.rt:62:16
 sub-if2 : tie.Need-sub-if2 Inv-loop μ-loop
 sub-if2 c = omega arith
 
--- src/lib.rt:63:17
 same-length : tie.Need-same-length Inv-loop μ-loop
 same-length c = c .before .before .before .before .loop .inv .2
 
--- src/lib.rt:63:17
 returns : tie.Need-returns Inv-loop μ-loop
 returns c = (ahead-done (feeding (length (c .before .before .before .before .before .before .before .before .before .args .out .now)) (c .before .before .before .before .before .before .before .before .before .args .session) (c .before .before .before .before .before .before .before .before .before .args .input .now)) (c .before .before .before .before .before .before .before .before .before .args .out .now) (c .before .before .before .before .loop .taken) (c .before .before .before .before .loop .written) (session (c .before .before .before .before .loop .account) (c .before .before .before .before .loop .length) (c .before .before .before .before .loop .line)) (c .before .before .before .before .loop .out) (line-waits (feeding (length (c .before .before .before .before .before .before .before .before .before .args .out .now)) (c .before .before .before .before .before .before .before .before .before .args .session) (c .before .before .before .before .before .before .before .before .before .args .input .now)) (c .before .before .before .before .before .before .before .before .before .args .out .now) (c .before .before .before .before .loop .taken) (c .before .before .before .before .loop .written) (length (c .before .before .before .before .before .before .before .before .before .args .out .now)) (session (c .before .before .before .before .loop .account) (c .before .before .before .before .loop .length) (c .before .before .before .before .loop .line)) (c .before .before .before .before .before .before .before .before .before .args .input .now) (c .before .before .before .before .loop .out) (c .before .before .before .before .loop .inv .4) (omega arith) (c .before .if1 .taken) (omega (arith, c .if2 .taken))), (ahead-text (feeding (length (c .before .before .before .before .before .before .before .before .before .args .out .now)) (c .before .before .before .before .before .before .before .before .before .args .session) (c .before .before .before .before .before .before .before .before .before .args .input .now)) (c .before .before .before .before .before .before .before .before .before .args .out .now) (c .before .before .before .before .loop .taken) (c .before .before .before .before .loop .written) (session (c .before .before .before .before .loop .account) (c .before .before .before .before .loop .length) (c .before .before .before .before .loop .line)) (c .before .before .before .before .loop .out) (line-waits (feeding (length (c .before .before .before .before .before .before .before .before .before .args .out .now)) (c .before .before .before .before .before .before .before .before .before .args .session) (c .before .before .before .before .before .before .before .before .before .args .input .now)) (c .before .before .before .before .before .before .before .before .before .args .out .now) (c .before .before .before .before .loop .taken) (c .before .before .before .before .loop .written) (length (c .before .before .before .before .before .before .before .before .before .args .out .now)) (session (c .before .before .before .before .loop .account) (c .before .before .before .before .loop .length) (c .before .before .before .before .loop .line)) (c .before .before .before .before .before .before .before .before .before .args .input .now) (c .before .before .before .before .loop .out) (c .before .before .before .before .loop .inv .4) (omega arith) (c .before .if1 .taken) (omega (arith, c .if2 .taken))), ((omega arith, omega arith), c .before .before .before .before .loop .inv .5)))
 
--- src/lib.rt:73:17
 shown-length-requires : tie.Need-shown-length-requires Inv-loop μ-loop
 shown-length-requires c κs = tt
 
--- src/lib.rt:74:48
 array-share-prefix-line : tie.Need-array-share-prefix-line Inv-loop μ-loop
 array-share-prefix-line c = let long : length (c .before .before .before .before .before .loop .line) ≡ 31 = c .before .before .before .before .before .loop .inv .3 in
     rw (c .shown-length .ensures) (omega arith)
 
--- src/lib.rt:74:48
 slice-aggregate-answer-line : tie.Need-slice-aggregate-answer-line Inv-loop μ-loop
 slice-aggregate-answer-line c = let long : length (c .before .before .before .before .before .before .loop .line) ≡ 31 = c .before .before .before .before .before .before .loop .inv .3 in
     rw (c .before .shown-length .ensures) (sym (length-take-le (min (c .before .before .before .before .before .before .loop .length) 31) (c .before .before .before .before .before .before .loop .line) (omega arith)))
 
--- src/lib.rt:74:17
 answer-line-requires : tie.Need-answer-line-requires Inv-loop μ-loop
 answer-line-requires c κs = λ k. reached-whole (c .before .before .before .before .before .before .loop .account) (c .before .before .before .before .before .before .loop .inv .5 k)
 
--- src/lib.rt:75:13
 put-answer-requires : tie.Need-put-answer-requires Inv-loop μ-loop
 put-answer-requires c κs = omega (arith, c .before .before .before .before .if2 .left)
 
--- src/lib.rt:78:13
 add-taken : tie.Need-add-taken Inv-loop μ-loop
 add-taken c = taken-fits (c .before .before .before .before .before .before .before .before .before)
 
--- src/lib.rt:59:5
 loop-less : tie.Need-loop-less Inv-loop μ-loop
 loop-less c = omega arith
 
--- src/lib.rt:59:5
 loop-again : tie.Need-loop-again Inv-loop μ-loop
 loop-again c = (
   omega arith,
@@ -101,23 +83,18 @@ loop-again c = (
   λ k. rw (line-is (c .before .before .before .before .before)) (reached-line (c .before .before .before .before .before .before .before .before .before .before .before .before .loop .account) (take (c .before .before .before .before .before .before .before .before .before .before .before .before .loop .length) (c .before .before .before .before .before .before .before .before .before .before .before .before .loop .line)) (c .before .before .before .before .before .before .before .before .before .before .before .before .loop .inv .5 k)),
 )
 
--- src/lib.rt:81:9
 add-taken-2 : tie.Need-add-taken-2 Inv-loop μ-loop
 add-taken-2 c = omega arith
 
--- src/lib.rt:83:13
 array-write-line : tie.Need-array-write-line Inv-loop μ-loop
 array-write-line c = omega (arith, c .if3 .taken)
 
--- src/lib.rt:84:13
 add-length : tie.Need-add-length Inv-loop μ-loop
 add-length c = omega arith
 
--- src/lib.rt:59:5
 loop-less-2 : tie.Need-loop-less-2 Inv-loop μ-loop
 loop-less-2 c = omega arith
 
--- src/lib.rt:59:5
 loop-again-2 : tie.Need-loop-again-2 Inv-loop μ-loop
 loop-again-2 c = (
   omega arith,
@@ -128,11 +105,9 @@ loop-again-2 c = (
   c .before .before .before .before .loop .inv .5,
 )
 
--- src/lib.rt:59:5
 loop-less-3 : tie.Need-loop-less-3 Inv-loop μ-loop
 loop-less-3 c = omega arith
 
--- src/lib.rt:59:5
 loop-again-3 : tie.Need-loop-again-3 Inv-loop μ-loop
 loop-again-3 c = (
   omega arith,
@@ -143,11 +118,9 @@ loop-again-3 c = (
   c .before .before .before .before .loop .inv .5,
 )
 
--- src/lib.rt:50:1
 same-length-2 : tie.Need-same-length-2 Inv-loop μ-loop
 same-length-2 c = c .before .loop .inv .2
 
--- src/lib.rt:50:1
 returns-2 : tie.Need-returns-2 Inv-loop μ-loop
 returns-2 c = (ahead-done (feeding (length (c .before .before .before .before .before .before .args .out .now)) (c .before .before .before .before .before .before .args .session) (c .before .before .before .before .before .before .args .input .now)) (c .before .before .before .before .before .before .args .out .now) (c .before .loop .taken) (c .before .loop .written) (session (c .before .loop .account) (c .before .loop .length) (c .before .loop .line)) (c .before .loop .out) (input-ended (feeding (length (c .before .before .before .before .before .before .args .out .now)) (c .before .before .before .before .before .before .args .session) (c .before .before .before .before .before .before .args .input .now)) (c .before .before .before .before .before .before .args .out .now) (c .before .loop .taken) (c .before .loop .written) (length (c .before .before .before .before .before .before .args .out .now)) (session (c .before .loop .account) (c .before .loop .length) (c .before .loop .line)) (c .before .before .before .before .before .before .args .input .now) (c .before .loop .out) (c .before .loop .inv .4) (omega arith)), (ahead-text (feeding (length (c .before .before .before .before .before .before .args .out .now)) (c .before .before .before .before .before .before .args .session) (c .before .before .before .before .before .before .args .input .now)) (c .before .before .before .before .before .before .args .out .now) (c .before .loop .taken) (c .before .loop .written) (session (c .before .loop .account) (c .before .loop .length) (c .before .loop .line)) (c .before .loop .out) (input-ended (feeding (length (c .before .before .before .before .before .before .args .out .now)) (c .before .before .before .before .before .before .args .session) (c .before .before .before .before .before .before .args .input .now)) (c .before .before .before .before .before .before .args .out .now) (c .before .loop .taken) (c .before .loop .written) (length (c .before .before .before .before .before .before .args .out .now)) (session (c .before .loop .account) (c .before .loop .length) (c .before .loop .line)) (c .before .before .before .before .before .before .args .input .now) (c .before .loop .out) (c .before .loop .inv .4) (omega arith)), ((omega arith, omega arith), c .before .loop .inv .5)))
 

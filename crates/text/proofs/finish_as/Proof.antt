@@ -5,27 +5,19 @@ use Rattle.text.proofs.Feeding.{finish-none, finish-line}
 use borrow.Author.Needs.{needs}
 use Rattle.text.proofs.finish_as.Statement.{statement}
 use Rattle.text.proofs.finish_as.Tie as tie
-use Rattle.text.proofs.finish_as.Reads as reads
-use Rattle.text.proofs.finish_as.Lts as lts
-use Rattle.text.proofs.feed_as.Reads as feed-reads
 
--- src/lib.rt:114:9
 returns : tie.Need-returns
 returns c = rw (finish-none (length (c .before .before .before .args .out .now)) (c .before .before .before .args .session) (c .if1 .taken)) (refl, (refl, omega arith))
 
--- src/lib.rt:121:19
 slice-aggregate-feed : tie.Need-slice-aggregate-feed-as
 slice-aggregate-feed c = search needs
 
--- src/lib.rt:121:5
 feed-requires : tie.Need-feed-as-requires
 feed-requires c κs = search needs
 
--- src/lib.rt:109:1
 same-length : tie.Need-same-length
 same-length c = search needs
 
--- src/lib.rt:109:1
 returns-2 : tie.Need-returns-2
 returns-2 c = rw (finish-line (length (c .before .before .before .before .before .before .before .before .args .out .now)) (c .before .before .before .before .before .before .before .before .args .session) (c .before .before .before .before .before .if1 .left)) (c .before .before .feed-as .ensures .0, (c .before .before .feed-as .ensures .1 .0, c .before .before .feed-as .ensures .1 .1 .0 .1))
 

@@ -1,8 +1,8 @@
 use Rattle.text.proofs.Feeding.{take-min}
 use native.Mathlib.Nat.{zero-add}
 use Rattle.ledger.specs.Posting.{blank}
-use mathlib.Core.Path.{_≡_, refl, sym, ap, _∙_}
-use Prim.Native.Nat.{_+_, _-_, _*_, min, _≤_}
+use mathlib.Core.Path.{_≡_, refl, ap, _∙_}
+use Prim.Native.Nat.{_-_, _*_, min, _≤_}
 use native.Mathlib.Omega.{arith}
 use lib.ListN.{length, getD, take}
 use borrow.Author.Needs.{needs}
@@ -14,10 +14,6 @@ use Rattle.wire.proofs.Writing.{written-on, length-notice}
 use Rattle.text.specs.Output.{noticesOf}
 use Rattle.text.proofs.put_items.Statement.{statement}
 use Rattle.text.proofs.put_items.Tie as tie
-use Rattle.text.proofs.put_items.Reads as reads
-use Rattle.text.proofs.put_items.Lts as lts
-use Rattle.text.proofs.shown_items.Reads as shown-items-reads
-use Rattle.wire.proofs.put_notice.Reads as put-notice-reads
 
 abbrev Inv-loop : tie.InvT-loop
 Inv-loop out₀ items shown i₀ out i = (i ≤ shown) × (length out ≡ length out₀) × (out ≡ written out₀ 0 (noticesOf (take i items)))
@@ -31,49 +27,38 @@ shown-most c = omega (arith, c .shown-items .ensures)
 put-length : (c : tie.After-put-notice Inv-loop μ-loop) → length (c .put-notice .last .1 .0) ≡ length (c .before .before .before .before .loop .out)
 put-length c = search needs
 
--- src/lib.rt:149:9
 shown-items-requires : tie.Need-shown-items-requires Inv-loop μ-loop
 shown-items-requires c κs = tt
 
--- src/lib.rt:151:5
 loop-holds : tie.Need-loop-holds Inv-loop μ-loop
 loop-holds c = (omega arith, refl, refl)
 
--- src/lib.rt:152:26
 mul-put-notice : tie.Need-mul-put-notice Inv-loop μ-loop
 mul-put-notice c = omega (arith, shown-most (c .before .before))
 
--- src/lib.rt:152:26
 array-copy-out-put-notice : tie.Need-array-copy-out-put-notice Inv-loop μ-loop
 array-copy-out-put-notice c = omega (arith, shown-most (c .before .before))
 
--- src/lib.rt:152:41
 mul-put-notice-2 : tie.Need-mul-put-notice-2 Inv-loop μ-loop
 mul-put-notice-2 c = omega (arith, shown-most (c .before .before .before .before))
 
--- src/lib.rt:152:9
 put-notice-requires : tie.Need-put-notice-requires Inv-loop μ-loop
 put-notice-requires c κs = omega (arith, c .before .before .before .before .shown-items .ensures, c .before .before .before .before .before .before .before .pre)
 
--- src/lib.rt:153:9
 add-i : tie.Need-add-i Inv-loop μ-loop
 add-i c = omega arith
 
--- src/lib.rt:151:5
 loop-less : tie.Need-loop-less Inv-loop μ-loop
 loop-less c = omega arith
 
--- src/lib.rt:151:5
 loop-again : tie.Need-loop-again Inv-loop μ-loop
 loop-again c = let long : length (c .before .before .before .before .before .before .before .before .before .before .args .ledger .items) ≡ 72 = search (length-of-mapped, needs) in
     let most = shown-most (c .before .before .before .before .before .before .before) in
     (omega arith, put-length (c .before .before) ∙ c .before .before .before .before .before .before .loop .inv .1, rw (joined-next noticeLine (c .before .before .before .before .before .before .before .before .before .before .args .ledger .items) (c .before .before .before .before .before .before .loop .i) blank (omega (arith, long, most))) (written-on (c .before .before .before .before .before .before .before .before .before .before .args .out .now) 0 (noticesOf (take (c .before .before .before .before .before .before .loop .i) (c .before .before .before .before .before .before .before .before .before .before .args .ledger .items))) (noticeLine (getD (c .before .before .before .before .before .before .before .before .before .before .args .ledger .items) (c .before .before .before .before .before .before .loop .i) blank)) (35 * c .before .before .before .before .before .before .loop .i) (joined-taken noticeLine 35 length-notice (c .before .before .before .before .before .before .before .before .before .before .args .ledger .items) (c .before .before .before .before .before .before .loop .i) (omega (arith, long, most))) (c .before .before .before .before .before .before .loop .inv .2) (rw (zero-add (35 * c .before .before .before .before .before .before .loop .i)) (c .before .before .put-notice .ensures))))
 
--- src/lib.rt:144:1
 same-length : tie.Need-same-length Inv-loop μ-loop
 same-length c = c .before .loop .inv .1
 
--- src/lib.rt:144:1
 returns : tie.Need-returns Inv-loop μ-loop
 returns c = let long : length (c .before .before .before .before .before .args .ledger .items) ≡ 72 = search (length-of-mapped, needs) in
     let done : c .before .loop .i ≡ min (c .before .before .before .before .before .args .ledger .count) 72 = omega (arith, c .before .before .shown-items .ensures) in

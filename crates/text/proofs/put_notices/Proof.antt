@@ -9,34 +9,24 @@ use Rattle.text.proofs.Feeding.{notices-length}
 use borrow.Author.Needs.{needs}
 use Rattle.text.proofs.put_notices.Statement.{statement}
 use Rattle.text.proofs.put_notices.Tie as tie
-use Rattle.text.proofs.put_notices.Reads as reads
-use Rattle.text.proofs.put_notices.Lts as lts
-use Rattle.text.proofs.put_items.Reads as put-items-reads
-use Rattle.text.proofs.shown_items.Reads as shown-items-reads
 
--- src/lib.rt:130:21
 shown-items-requires : tie.Need-shown-items-requires
 shown-items-requires c κs = search needs
 
--- src/lib.rt:130:16
 mul-size : tie.Need-mul-size
 mul-size c = search needs
 
--- src/lib.rt:132:9
 put-items-requires : tie.Need-put-items-requires
 put-items-requires c κs = search needs
 
--- src/lib.rt:125:1
 same-length : tie.Need-same-length
 same-length c = search needs
 
--- src/lib.rt:125:1
 returns : tie.Need-returns
 returns c = let long : length (c .before .before .before .before .before .before .before .before .args .account .ledger .items) ≡ 72 = search (length-of-mapped, needs) in
     let size = notices-length (c .before .before .before .before .before .before .before .before .args .account .ledger .count) (c .before .before .before .before .before .before .before .before .args .account .ledger .items) long in
     (ap (λ n. 35 * n) (c .before .before .before .before .before .shown-items .ensures) ∙ sym size, rw (le-leb (length (openNotices (c .before .before .before .before .before .before .before .before .args .account))) (length (c .before .before .before .before .before .before .before .before .args .out .now)) (omega (arith, size, c .before .before .before .before .if1 .taken, c .before .before .before .before .before .shown-items .ensures))) (c .before .before .put-items .ensures))
 
--- src/lib.rt:125:1
 returns-2 : tie.Need-returns-2
 returns-2 c = let long : length (c .before .before .before .before .args .account .ledger .items) ≡ 72 = search (length-of-mapped, needs) in
     let size = notices-length (c .before .before .before .before .args .account .ledger .count) (c .before .before .before .before .args .account .ledger .items) long in

@@ -1,18 +1,14 @@
 use mathlib.Core.Path.{_≡_, refl, sym, ap, _∙_}
-use mathlib.Core.Bool.{true}
 use Prim.Native.Nat.{ℕ, suc, _+_, _-_, _≤_}
 use native.Mathlib.Omega.{arith}
 use native.Mathlib.Nat.{add-zero}
 use native.Mathlib.Numerals.{add-one}
 use lib.ListN.{length, getD, set, drop, length-set, drop-of-length-le}
 use lib.Seq.{drop-cons}
-use borrow.Author.Needs.{needs}
 use borrow.Author.Tests.{not-true, not-false}
 use Rattle.wire.specs.Digits.{written}
 use Rattle.text.proofs.put_part.Statement.{statement}
 use Rattle.text.proofs.put_part.Tie as tie
-use Rattle.text.proofs.put_part.Reads as reads
-use Rattle.text.proofs.put_part.Lts as lts
 
 abbrev Inv-loop : tie.InvT-loop
 Inv-loop part out₀ at writing i₀ out i = (i ≤ length part) × (length out ≡ length out₀) × (written out₀ at part ≡ written out (at + i) (drop i part))
@@ -26,35 +22,27 @@ room c = c .before .pre (not-false (c .before .args .writing) (c .if1 .left))
 place : (at i : ℕ) → suc (at + i) ≡ at + (i + 1)
 place at i = omega arith
 
--- src/lib.rt:178:9
 returns : tie.Need-returns Inv-loop μ-loop
 returns c = rw (not-true (c .before .args .writing) (c .if1 .taken)) refl
 
--- src/lib.rt:181:5
 loop-holds : tie.Need-loop-holds Inv-loop μ-loop
 loop-holds c = (omega arith, refl, rw (add-zero (c .before .args .at)) refl)
 
--- src/lib.rt:182:23
 shared-slice-read-out : tie.Need-shared-slice-read-out Inv-loop μ-loop
 shared-slice-read-out c = omega arith
 
--- src/lib.rt:182:13
 add-out : tie.Need-add-out Inv-loop μ-loop
 add-out c = omega (arith, room (c .before .before .before))
 
--- src/lib.rt:182:9
 slice-write-out : tie.Need-slice-write-out Inv-loop μ-loop
 slice-write-out c = omega (arith, room (c .before .before .before))
 
--- src/lib.rt:183:9
 add-i : tie.Need-add-i Inv-loop μ-loop
 add-i c = omega arith
 
--- src/lib.rt:181:5
 loop-less : tie.Need-loop-less Inv-loop μ-loop
 loop-less c = omega arith
 
--- src/lib.rt:181:5
 loop-again : tie.Need-loop-again Inv-loop μ-loop
 loop-again c = let out = c .before .before .loop .out in
     let part = c .before .before .before .before .args .part .now in
@@ -65,11 +53,9 @@ loop-again c = let out = c .before .before .loop .out in
       c .before .before .loop .inv .2 ∙ ap (written out (at + i)) (drop-cons part i 0 (omega arith)) ∙ ap (λ n. written (set out (at + i) (getD part i 0)) n (drop (suc i) part)) (place at i) ∙ ap (λ n. written (set out (at + i) (getD part i 0)) (at + (i + 1)) (drop n part)) (sym (add-one i)),
     )
 
--- src/lib.rt:173:1
 same-length : tie.Need-same-length Inv-loop μ-loop
 same-length c = c .before .loop .inv .1
 
--- src/lib.rt:173:1
 returns-2 : tie.Need-returns-2 Inv-loop μ-loop
 returns-2 c = let done = drop-of-length-le (c .before .before .before .args .part .now) {i = c .before .loop .i} (omega arith) in
     rw (not-false (c .before .before .before .args .writing) (c .before .before .if1 .left)) (sym (c .before .loop .inv .2 ∙ ap (written (c .before .loop .out) (c .before .before .before .args .at + c .before .loop .i)) done))

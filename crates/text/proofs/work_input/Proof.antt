@@ -7,7 +7,6 @@ use lib.ListN.{length, take, drop, length-drop}
 use lib.Seq.{take-all, length-take-le}
 use Rattle.wire.specs.Digits.{written}
 use Rattle.text.specs.declared.Fed.{Fed}
-use Rattle.text.specs.Output.{bill}
 use Rattle.text.specs.Feeding.{Feeding, feeding, finishing, fedOf}
 use Rattle.text.specs.Pieces.{linesIn}
 use Rattle.text.proofs.Reached.{reached-lines}
@@ -16,12 +15,6 @@ use borrow.Author.Needs.{needs}
 use Rattle.text.proofs.Working.{shown-part, made-within, Working, working-start, working-on, Worked, working-end}
 use Rattle.text.proofs.work_input.Statement.{statement}
 use Rattle.text.proofs.work_input.Tie as tie
-use Rattle.text.proofs.work_input.Reads as reads
-use Rattle.text.proofs.work_input.Lts as lts
-use Rattle.text.proofs.Session.new.Reads as new-reads
-use Rattle.text.proofs.feed_as.Reads as feed-reads
-use Rattle.text.proofs.finish_as.Reads as finish-reads
-use Rattle.text.proofs.put_part.Reads as put-part-reads
 
 abbrev Inv-loop : tie.InvT-loop
 Inv-loop input out₀ writing session₀ space₀ taken₀ size₀ out session space taken size =
@@ -111,59 +104,45 @@ last-room c e =
 last-length : (c : tie.After-put-part2 Inv-loop μ-loop) → length (c .put-part2 .last .1 .0) ≡ length (c .before .before .before .before .before .before .before .loop .out)
 last-length c = search needs
 
--- src/lib.rt:194:9
 new-requires : tie.Need-new-requires Inv-loop μ-loop
 new-requires c κs = tt
 
--- src/lib.rt:198:5
 loop-holds : tie.Need-loop-holds Inv-loop μ-loop
 loop-holds c = (omega arith, refl, refl, omega arith, rw (c .new .ensures) (working-start (c .before .before .before .args .input .now) (c .before .before .before .args .out .now) (c .before .before .before .args .writing)))
 
--- src/lib.rt:199:33
 sub-feed : tie.Need-sub-feed-as Inv-loop μ-loop
 sub-feed c = omega arith
 
--- src/lib.rt:199:33
 part-feed-start : tie.Need-part-feed-as-start Inv-loop μ-loop
 part-feed-start c = omega arith
 
--- src/lib.rt:199:33
 part-feed-end : tie.Need-part-feed-as-end Inv-loop μ-loop
 part-feed-end c = omega arith
 
--- src/lib.rt:199:50
 slice-aggregate-feed : tie.Need-slice-aggregate-feed-as Inv-loop μ-loop
 slice-aggregate-feed c = sym (c .before .before .before .loop .inv .2)
 
--- src/lib.rt:199:13
 feed-requires : tie.Need-feed-as-requires Inv-loop μ-loop
 feed-requires c κs = λ _. reached-lines (c .before .before .before .loop .session .account) (linesIn [] (take (c .before .before .before .loop .taken) (c .before .before .before .before .before .before .before .args .input .now))) (c .before .before .before .loop .inv .4 .stands .account-is)
 
--- src/lib.rt:201:18
 array-share-prefix-space : tie.Need-array-share-prefix-space Inv-loop μ-loop
 array-share-prefix-space c = rw (space-long (c .before)) (written-most (c .before))
 
--- src/lib.rt:201:18
 slice-aggregate-put-part : tie.Need-slice-aggregate-put-part Inv-loop μ-loop
 slice-aggregate-put-part c = sym (length-take-le (c .before .before .feed-as .result .written) (c .before .before .feed-as .last .1 .1 .0) (rw (space-long (c .before .before)) (written-most (c .before .before))))
 
--- src/lib.rt:201:9
 put-part-requires : tie.Need-put-part-requires Inv-loop μ-loop
 put-part-requires c κs = λ e. room (c .before .before .before) e
 
--- src/lib.rt:203:9
 add-taken : tie.Need-add-taken Inv-loop μ-loop
 add-taken c = omega (arith, taken-most (c .before .before .before .before .before .before .before .before), c .before .before .before .before .before .before .before .before .before .before .before .before .before .before .before .before .pre .0)
 
--- src/lib.rt:204:9
 add-size : tie.Need-add-size Inv-loop μ-loop
 add-size c = omega (arith, taken-most (c .before .before .before .before .before .before .before .before), written-most (c .before .before .before .before .before .before .before .before), c .before .before .before .before .before .before .before .before .before .before .before .before .loop .inv .3, c .before .before .before .before .before .before .before .before .before .before .before .before .before .before .before .before .pre .0)
 
--- src/lib.rt:198:5
 loop-less : tie.Need-loop-less Inv-loop μ-loop
 loop-less c = omega (arith, taken-most (c .before .before .before .before .before .before .before .before), taken-more (c .before .before .before .before .before .before .before .before))
 
--- src/lib.rt:198:5
 loop-again : tie.Need-loop-again Inv-loop μ-loop
 loop-again c = (
   taken-most (c .before .before .before .before .before .before .before .before),
@@ -173,35 +152,27 @@ loop-again c = (
   rw (fed-is (c .before .before .before .before .before .before .before .before)) (next (c .before .before .before .before .before .before .before .before) (c .before .before .before .before .put-part .last .1 .0) (c .before .before .before .before .put-part .ensures ∙ ap (λ xs. cond (c .before .before .before .before .before .before .before .before .before .before .before .before .before .before .before .before .args .writing) (written (c .before .before .before .before .before .before .before .before .before .before .before .before .loop .out) (c .before .before .before .before .before .before .before .before .before .before .before .before .loop .size) xs) (c .before .before .before .before .before .before .before .before .before .before .before .before .loop .out)) (part-is (c .before .before .before .before .before .before .before .before)))),
 )
 
--- src/lib.rt:206:32
 slice-aggregate-finish : tie.Need-slice-aggregate-finish-as Inv-loop μ-loop
 slice-aggregate-finish c = sym (c .before .before .loop .inv .2)
 
--- src/lib.rt:206:9
 finish-requires : tie.Need-finish-as-requires Inv-loop μ-loop
 finish-requires c κs = λ _. reached-lines (c .before .before .loop .session .account) (linesIn [] (take (c .before .before .loop .taken) (c .before .before .before .before .before .before .args .input .now))) (c .before .before .loop .inv .4 .stands .account-is)
 
--- src/lib.rt:208:14
 array-share-prefix-space-2 : tie.Need-array-share-prefix-space-2 Inv-loop μ-loop
 array-share-prefix-space-2 c = rw (last-long (c .before)) (last-most (c .before))
 
--- src/lib.rt:208:14
 slice-aggregate-put-part-2 : tie.Need-slice-aggregate-put-part-2 Inv-loop μ-loop
 slice-aggregate-put-part-2 c = sym (length-take-le (c .before .before .finish-as .result .written) (c .before .before .finish-as .last .1 .0) (rw (last-long (c .before .before)) (last-most (c .before .before))))
 
--- src/lib.rt:208:5
 put-part-requires-2 : tie.Need-put-part-requires-2 Inv-loop μ-loop
 put-part-requires-2 c κs = λ e. last-room (c .before .before .before) e
 
--- src/lib.rt:209:5
 add-size-2 : tie.Need-add-size-2 Inv-loop μ-loop
 add-size-2 c = omega (arith, last-most (c .before .before .before .before .before .before), c .before .before .before .before .before .before .before .before .before .loop .inv .3, c .before .before .before .before .before .before .before .before .before .before .before .before .before .pre .0)
 
--- src/lib.rt:188:1
 same-length : tie.Need-same-length Inv-loop μ-loop
 same-length c = last-length (c .before .before .before .before) ∙ c .before .before .before .before .before .before .before .before .before .before .before .loop .inv .1
 
--- src/lib.rt:188:1
 returns : tie.Need-returns Inv-loop μ-loop
 returns c = let w = done (c .before .before .before .before .before .before .before .before) (c .before .before .before .before .put-part2 .last .1 .0) (c .before .before .before .before .put-part2 .ensures ∙ ap (λ xs. cond (c .before .before .before .before .before .before .before .before .before .before .before .before .before .before .before .args .writing) (written (c .before .before .before .before .before .before .before .before .before .before .before .loop .out) (c .before .before .before .before .before .before .before .before .before .before .before .loop .size) xs) (c .before .before .before .before .before .before .before .before .before .before .before .loop .out)) (last-part (c .before .before .before .before .before .before .before .before))) in
     (rw (last-is (c .before .before .before .before .before .before .before .before), w .account-is, w .size-is) refl, w .out-is)

@@ -1,4 +1,4 @@
-use mathlib.Core.Path.{_≡_, refl, sym, ap, _∙_}
+use mathlib.Core.Path.{_≡_, refl, ap, _∙_}
 use mathlib.Core.Bool.{false≢true}
 use native.Mathlib.Omega.{arith}
 use lib.ListN.{length}
@@ -12,9 +12,6 @@ use Rattle.text.proofs.Sums.{sums}
 use borrow.Author.Needs.{needs}
 use Rattle.text.proofs.write_bill.Statement.{statement}
 use Rattle.text.proofs.write_bill.Tie as tie
-use Rattle.text.proofs.write_bill.Reads as reads
-use Rattle.text.proofs.write_bill.Lts as lts
-use Rattle.text.proofs.work_input.Reads as work-input-reads
 
 size-is : (c : tie.After-work-input) → c .work-input .result .size ≡ length (bill (c .before .before .before .before .before .args .input .now))
 size-is c = ap (λ (r : Billed). r .size) (c .work-input .ensures .0)
@@ -31,34 +28,27 @@ short : (c : tie.Else2) → length (c .before .before .before .before .before .b
 short c = let same = ap length (c .before .before .before .before .work-input .ensures .1) in
     omega (arith, same, size-is (c .before .before .before .before), c .if2 .left)
 
--- src/lib.rt:225:9
 returns : tie.Need-returns
 returns c = rw (lt-leb (length (c .before .before .before .args .input .now)) 281474976710656 (c .if1 .taken)) (refl, (refl, sums (linesOf (c .before .before .before .args .input .now))))
 
--- src/lib.rt:227:9
 work-input-requires : tie.Need-work-input-requires
 work-input-requires c κs = (c .before .if1 .left, λ e. absurd (false≢true e))
 
--- src/lib.rt:229:9
 work-input-requires-2 : tie.Need-work-input-requires-2
 work-input-requires-2 c κs = (c .before .before .before .before .before .before .before .if1 .left, λ _. room (c .before))
 
--- src/lib.rt:219:1
 same-length : tie.Need-same-length
 same-length c = search needs
 
--- src/lib.rt:219:1
 returns-2 : tie.Need-returns-2
 returns-2 c = let input = c .before .before .before .before .before .before .before .before .before .before .before .before .before .args .input .now in
     let out = c .before .before .before .before .before .before .before .before .before .before .before .before .before .args .out .now in
     rw (le-leb (length input) 281474976710656 (c .before .before .before .before .before .before .before .before .before .before .if1 .left), le-leb (length (bill input)) (length out) (fits (c .before .before .before .before)))
     (size-is (c .before .before .before .before .before .before .before .before), (c .before .before .work-input2 .ensures .1 ∙ ap (λ t. written t 0 (bill input)) (c .before .before .before .before .before .before .before .before .work-input .ensures .1), sums (linesOf input)))
 
--- src/lib.rt:219:1
 same-length-2 : tie.Need-same-length-2
 same-length-2 c = search needs
 
--- src/lib.rt:219:1
 returns-3 : tie.Need-returns-3
 returns-3 c = let input = c .before .before .before .before .before .before .before .before .before .args .input .now in
     let out = c .before .before .before .before .before .before .before .before .before .args .out .now in

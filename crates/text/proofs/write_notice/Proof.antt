@@ -1,6 +1,5 @@
-use mathlib.Core.Path.{_≡_, refl, sym, ap, _∙_}
+use mathlib.Core.Path.{_≡_, refl, ap, _∙_}
 use mathlib.Core.Bool.{false≢true}
-use native.Mathlib.Omega.{arith}
 use lib.ListN.{length}
 use borrow.Author.Tests.{le-leb, lt-leb}
 use Rattle.text.specs.declared.Billed.{Billed}
@@ -8,32 +7,23 @@ use Rattle.text.specs.Output.{openNotices, notice, fitted}
 use borrow.Author.Needs.{needs}
 use Rattle.text.proofs.write_notice.Statement.{statement}
 use Rattle.text.proofs.write_notice.Tie as tie
-use Rattle.text.proofs.write_notice.Reads as reads
-use Rattle.text.proofs.write_notice.Lts as lts
-use Rattle.text.proofs.put_notices.Reads as put-notices-reads
-use Rattle.text.proofs.work_input.Reads as work-input-reads
 
 notice-is : (c : tie.After-work-input) → openNotices (c .work-input .result .account) ≡ notice (c .before .before .before .before .before .args .input .now)
 unfolding notice
 notice-is c = ap (λ (r : Billed). openNotices (r .account)) (c .work-input .ensures .0)
 
--- src/lib.rt:240:9
 returns : tie.Need-returns
 returns c = rw (lt-leb (length (c .before .before .before .args .input .now)) 281474976710656 (c .if1 .taken)) (refl, refl)
 
--- src/lib.rt:242:9
 work-input-requires : tie.Need-work-input-requires
 work-input-requires c κs = (c .before .if1 .left, λ e. absurd (false≢true e))
 
--- src/lib.rt:244:5
 put-notices-requires : tie.Need-put-notices-requires
 put-notices-requires c κs = search needs
 
--- src/lib.rt:235:1
 same-length : tie.Need-same-length
 same-length c = search needs
 
--- src/lib.rt:235:1
 returns-2 : tie.Need-returns-2
 returns-2 c = let input = c .before .before .before .before .before .before .before .before .before .before .before .before .args .input .now in
     let text = notice-is (c .before .before .before .before .before .before .before) in

@@ -1,5 +1,4 @@
-use mathlib.Core.Path.{_∙_, ap}
-use mathlib.Core.Path.{_≡_, refl, sym}
+use mathlib.Core.Path.{_∙_, ap, _≡_, refl, sym}
 use mathlib.Core.Bool.{true}
 use Prim.Native.Nat.{_-_, _≤_}
 use native.Mathlib.Omega.{arith}
@@ -13,9 +12,6 @@ use Rattle.wire.specs.Digits.{isDigit}
 use Rattle.wire.proofs.Digits.{small-digit, large-digit}
 use Rattle.wire.proofs.all_digits.Statement.{statement}
 use Rattle.wire.proofs.all_digits.Tie as tie
-use Rattle.wire.proofs.all_digits.Reads as reads
-use Rattle.wire.proofs.all_digits.Lts as lts
-use Rattle.wire.proofs.digit_or.Reads as digit-or-reads
 
 abbrev Inv-loop : tie.InvT-loop
 Inv-loop line i₀ i = (i ≤ length line) × (every isDigit (take i line) ≡ true)
@@ -23,35 +19,27 @@ Inv-loop line i₀ i = (i ≤ length line) × (every isDigit (take i line) ≡ t
 abbrev μ-loop : tie.MeasureT-loop
 μ-loop line i₀ i = length line - i
 
--- src/lib.rt:41:5
 loop-holds : tie.Need-loop-holds Inv-loop μ-loop
 loop-holds c = (omega arith, refl)
 
--- src/lib.rt:42:21
 shared-slice-read-digit-or : tie.Need-shared-slice-read-digit-or Inv-loop μ-loop
 shared-slice-read-digit-or c = omega arith
 
--- src/lib.rt:42:12
 digit-or-requires : tie.Need-digit-or-requires Inv-loop μ-loop
 digit-or-requires c κs = search needs
 
--- src/lib.rt:43:13
 returns : tie.Need-returns Inv-loop μ-loop
 returns c = sym (ap (every isDigit) (sym (take-all (length (c .before .before .before .before .before .before .args .line .now)) (c .before .before .before .before .before .before .args .line .now) (omega arith))) ∙ every-fails isDigit (c .before .before .before .before .before .before .args .line .now) (length (c .before .before .before .before .before .before .args .line .now)) (c .before .before .before .before .loop .i) 0 (omega arith) (omega arith) (large-digit (getD (c .before .before .before .before .before .before .args .line .now) (c .before .before .before .before .loop .i) 0) (rw (c .before .digit-or .ensures) at (c .if1 .taken))))
 
--- src/lib.rt:45:9
 add-i : tie.Need-add-i Inv-loop μ-loop
 add-i c = omega arith
 
--- src/lib.rt:41:5
 loop-less : tie.Need-loop-less Inv-loop μ-loop
 loop-less c = omega arith
 
--- src/lib.rt:41:5
 loop-again : tie.Need-loop-again Inv-loop μ-loop
 loop-again c = (omega arith, rw (add-one (c .before .before .before .before .loop .i)) (every-next isDigit (c .before .before .before .before .before .before .args .line .now) (c .before .before .before .before .loop .i) 0 (omega arith) (c .before .before .before .before .loop .inv .1) (small-digit (getD (c .before .before .before .before .before .before .args .line .now) (c .before .before .before .before .loop .i) 0) (rw (c .before .digit-or .ensures) at (c .if1 .left)))))
 
--- src/lib.rt:37:1
 returns-2 : tie.Need-returns-2 Inv-loop μ-loop
 returns-2 c = let done : c .before .loop .i ≡ length (c .before .before .before .args .line .now) = omega arith in
     sym (ap (every isDigit) (sym (take-all (c .before .loop .i) (c .before .before .before .args .line .now) (omega arith))) ∙ c .before .loop .inv .1)

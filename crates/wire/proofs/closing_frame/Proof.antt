@@ -6,44 +6,31 @@ use Rattle.wire.proofs.Frames.{frame-at}
 use borrow.Author.Needs.{needs}
 use Rattle.wire.proofs.closing_frame.Statement.{statement}
 use Rattle.wire.proofs.closing_frame.Tie as tie
-use Rattle.wire.proofs.closing_frame.Reads as reads
-use Rattle.wire.proofs.closing_frame.Lts as lts
-use Rattle.wire.proofs.fuel_at.Reads as fuel-at-reads
-use Rattle.wire.proofs.number.Reads as number-reads
 
--- src/lib.rt:106:9
 number-requires : tie.Need-number-requires
 number-requires c κs = search needs
 
--- src/lib.rt:107:15
 number-requires-2 : tie.Need-number-requires-2
 number-requires-2 c κs = search needs
 
--- src/lib.rt:107:15
 cast-day : tie.Need-cast-day
 cast-day c = search needs
 
--- src/lib.rt:108:9
 number-requires-3 : tie.Need-number-requires-3
 number-requires-3 c κs = search needs
 
--- src/lib.rt:109:9
 fuel-at-requires : tie.Need-fuel-at-requires
 fuel-at-requires c κs = search needs
 
--- src/lib.rt:111:9
 returns : tie.Need-returns
 returns c = (λ i. Frame (Reading (c .before .before .before .number2 .ensures .0 i) (c .before .before .number3 .ensures .0 i) (c .before .fuel-at .ensures i))) ∙ sym (frame-at (c .before .before .before .before .before .before .args .line .now) 30 2 (c .before .before .before .before .before .before .pre .0) (sym (c .before .before .before .before .number .ensures .0) ∙ c .if1 .taken))
 
--- src/lib.rt:114:9
 returns-2 : tie.Need-returns-2
 returns-2 c = (λ i. Frame (Disconnection (c .before .before .before .before .number2 .ensures .0 i) (c .before .before .before .number3 .ensures .0 i) (c .before .before .fuel-at .ensures i))) ∙ sym (frame-at (c .before .before .before .before .before .before .before .args .line .now) 30 6 (c .before .before .before .before .before .before .before .pre .0) (sym (c .before .before .before .before .before .number .ensures .0) ∙ c .if2 .taken))
 
--- src/lib.rt:117:9
 returns-3 : tie.Need-returns-3
 returns-3 c = (λ i. Frame (Cancellation (c .before .before .before .before .before .number2 .ensures .0 i) (c .before .before .before .before .number3 .ensures .0 i) (c .before .before .before .fuel-at .ensures i))) ∙ sym (frame-at (c .before .before .before .before .before .before .before .before .args .line .now) 30 8 (c .before .before .before .before .before .before .before .before .pre .0) (sym (c .before .before .before .before .before .before .number .ensures .0) ∙ c .if3 .taken))
 
--- src/lib.rt:101:1
 returns-4 : tie.Need-returns-4
 returns-4 c = sym (frame-at (c .before .before .before .before .before .before .before .before .args .line .now) 30 (c .before .before .before .before .before .before .number .result) (c .before .before .before .before .before .before .before .before .pre .0) (sym (c .before .before .before .before .before .before .number .ensures .0)) ∙ rw (ne-eqb (c .before .before .before .before .before .before .number .result) 2 (c .before .before .if1 .left), ne-eqb (c .before .before .before .before .before .before .number .result) 6 (c .before .if2 .left), ne-eqb (c .before .before .before .before .before .before .number .result) 8 (c .if3 .left)) refl)
 

@@ -8,80 +8,55 @@ use Rattle.wire.proofs.Frames.{too-long, parsed-others, parsed-digits, 
 use borrow.Author.Needs.{needs}
 use Rattle.wire.proofs.decode.Statement.{statement}
 use Rattle.wire.proofs.decode.Tie as tie
-use Rattle.wire.proofs.decode.Reads as reads
-use Rattle.wire.proofs.decode.Lts as lts
-use Rattle.wire.proofs.all_digits.Reads as all-digits-reads
-use Rattle.wire.proofs.closing_frame.Reads as closing-frame-reads
-use Rattle.wire.proofs.dial_frame.Reads as dial-frame-reads
-use Rattle.wire.proofs.estimate_frame.Reads as estimate-frame-reads
-use Rattle.wire.proofs.exchange_frame.Reads as exchange-frame-reads
-use Rattle.wire.proofs.payment_frame.Reads as payment-frame-reads
-use Rattle.wire.proofs.stopped_frame.Reads as stopped-frame-reads
 
 digits-all : (c : tie.Else2) → every isDigit (c .before .before .before .before .args .line .now) ≡ true
 digits-all c = sym (c .before .all-digits .ensures) ∙ not-false (c .before .all-digits .result) (c .if2 .left)
 
--- src/lib.rt:72:9
 returns : tie.Need-returns
 returns c = sym (too-long (c .before .before .args .line .now) (omega arith))
 
--- src/lib.rt:74:9
 all-digits-requires : tie.Need-all-digits-requires
 all-digits-requires c κs = search needs
 
--- src/lib.rt:75:9
 returns-2 : tie.Need-returns-2
 returns-2 c = sym (parsed-others (c .before .before .before .before .args .line .now) (sym (c .before .all-digits .ensures) ∙ not-true (c .before .all-digits .result) (c .if2 .taken)))
 
--- src/lib.rt:78:15
 closing-frame-requires : tie.Need-closing-frame-requires
 closing-frame-requires c κs = (omega arith, digits-all (c .before))
 
--- src/lib.rt:79:15
 estimate-frame-requires : tie.Need-estimate-frame-requires
 estimate-frame-requires c κs = (omega arith, digits-all (c .before))
 
--- src/lib.rt:80:15
 dial-frame-requires : tie.Need-dial-frame-requires
 dial-frame-requires c κs = (omega arith, digits-all (c .before))
 
--- src/lib.rt:81:15
 exchange-frame-requires : tie.Need-exchange-frame-requires
 exchange-frame-requires c κs = (omega arith, digits-all (c .before))
 
--- src/lib.rt:82:15
 payment-frame-requires : tie.Need-payment-frame-requires
 payment-frame-requires c κs = (omega arith, digits-all (c .before))
 
--- src/lib.rt:83:14
 stopped-frame-requires : tie.Need-stopped-frame-requires
 stopped-frame-requires c κs = (omega arith, digits-all (c .before))
 
--- src/lib.rt:68:1
 returns-3 : tie.Need-returns-3
 returns-3 c = c .closing-frame .ensures ∙ sym (parsed-digits (c .before .before .before .before .before .before .args .line .now) (digits-all (c .before .before)))
 
--- src/lib.rt:68:1
 returns-4 : tie.Need-returns-4
 returns-4 c = c .estimate-frame .ensures ∙ sym (parsed-digits (c .before .before .before .before .before .before .args .line .now) (digits-all (c .before .before)))
 
--- src/lib.rt:68:1
 returns-5 : tie.Need-returns-5
 returns-5 c = c .dial-frame .ensures ∙ sym (parsed-digits (c .before .before .before .before .before .before .args .line .now) (digits-all (c .before .before)))
 
--- src/lib.rt:68:1
 returns-6 : tie.Need-returns-6
 returns-6 c = c .exchange-frame .ensures ∙ sym (parsed-digits (c .before .before .before .before .before .before .args .line .now) (digits-all (c .before .before)))
 
--- src/lib.rt:68:1
 returns-7 : tie.Need-returns-7
 returns-7 c = c .payment-frame .ensures ∙ sym (parsed-digits (c .before .before .before .before .before .before .args .line .now) (digits-all (c .before .before)))
 
--- src/lib.rt:68:1
 returns-8 : tie.Need-returns-8
 returns-8 c = c .stopped-frame .ensures ∙ sym (parsed-digits (c .before .before .before .before .before .before .args .line .now) (digits-all (c .before .before)))
 
--- src/lib.rt:68:1
 returns-9 : tie.Need-returns-9
 returns-9 c =
     sym (no-frame (c .before .before .before .before .before .args .line .now)

@@ -4,30 +4,22 @@ use Rattle.wire.proofs.Digits.{decimal, letter, below-digits, between-d
 use borrow.Author.Needs.{needs}
 use Rattle.wire.proofs.digit_or.Statement.{statement}
 use Rattle.wire.proofs.digit_or.Tie as tie
-use Rattle.wire.proofs.digit_or.Reads as reads
-use Rattle.wire.proofs.digit_or.Lts as lts
 
--- src/lib.rt:23:9
 returns : tie.Need-returns
 returns c = sym (below-digits (c .before .args .character) (c .if1 .taken))
 
--- src/lib.rt:26:9
 returns-2 : tie.Need-returns-2
 returns-2 c = sym (decimal (c .before .before .args .character) (c .before .if1 .left) (c .if2 .taken))
 
--- src/lib.rt:29:9
 returns-3 : tie.Need-returns-3
 returns-3 c = sym (between-digits (c .before .before .before .args .character) (c .before .if2 .left) (omega (arith, c .if3 .taken)))
 
--- src/lib.rt:32:16
 sub-result : tie.Need-sub-result
 sub-result c = search needs
 
--- src/lib.rt:32:9
 returns-4 : tie.Need-returns-4
 returns-4 c = sym (letter (c .before .before .before .before .args .character) (c .before .if3 .left) (c .if4 .taken))
 
--- src/lib.rt:19:1
 returns-5 : tie.Need-returns-5
 returns-5 c = sym (past-digits (c .before .before .before .before .args .character) (c .if4 .left))
 

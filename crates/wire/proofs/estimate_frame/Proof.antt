@@ -6,36 +6,25 @@ use Rattle.wire.proofs.Frames.{frame-at}
 use borrow.Author.Needs.{needs}
 use Rattle.wire.proofs.estimate_frame.Statement.{statement}
 use Rattle.wire.proofs.estimate_frame.Tie as tie
-use Rattle.wire.proofs.estimate_frame.Reads as reads
-use Rattle.wire.proofs.estimate_frame.Lts as lts
-use Rattle.wire.proofs.fuel_at.Reads as fuel-at-reads
-use Rattle.wire.proofs.number.Reads as number-reads
 
--- src/lib.rt:128:9
 number-requires : tie.Need-number-requires
 number-requires c κs = search needs
 
--- src/lib.rt:129:15
 number-requires-2 : tie.Need-number-requires-2
 number-requires-2 c κs = search needs
 
--- src/lib.rt:129:15
 cast-day : tie.Need-cast-day
 cast-day c = search needs
 
--- src/lib.rt:130:9
 fuel-at-requires : tie.Need-fuel-at-requires
 fuel-at-requires c κs = search needs
 
--- src/lib.rt:132:9
 returns : tie.Need-returns
 returns c = (λ i. Frame (Missed (c .before .before .number2 .ensures .0 i) (c .before .fuel-at .ensures i))) ∙ sym (frame-at (c .before .before .before .before .before .args .line .now) 22 3 (c .before .before .before .before .before .pre .0) (sym (c .before .before .before .number .ensures .0) ∙ c .if1 .taken))
 
--- src/lib.rt:135:9
 returns-2 : tie.Need-returns-2
 returns-2 c = (λ i. Frame (Absent (c .before .before .before .number2 .ensures .0 i) (c .before .before .fuel-at .ensures i))) ∙ sym (frame-at (c .before .before .before .before .before .before .args .line .now) 22 4 (c .before .before .before .before .before .before .pre .0) (sym (c .before .before .before .before .number .ensures .0) ∙ c .if2 .taken))
 
--- src/lib.rt:123:1
 returns-3 : tie.Need-returns-3
 returns-3 c = sym (frame-at (c .before .before .before .before .before .before .args .line .now) 22 (c .before .before .before .before .number .result) (c .before .before .before .before .before .before .pre .0) (sym (c .before .before .before .before .number .ensures .0)) ∙ rw (ne-eqb (c .before .before .before .before .number .result) 3 (c .before .if1 .left), ne-eqb (c .before .before .before .before .number .result) 4 (c .if2 .left)) refl)
 

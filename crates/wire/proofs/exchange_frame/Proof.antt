@@ -6,43 +6,31 @@ use Rattle.wire.proofs.Frames.{frame-at}
 use borrow.Author.Needs.{needs}
 use Rattle.wire.proofs.exchange_frame.Statement.{statement}
 use Rattle.wire.proofs.exchange_frame.Tie as tie
-use Rattle.wire.proofs.exchange_frame.Reads as reads
-use Rattle.wire.proofs.exchange_frame.Lts as lts
-use Rattle.wire.proofs.number.Reads as number-reads
 
--- src/lib.rt:173:9
 number-requires : tie.Need-number-requires
 number-requires c κs = search needs
 
--- src/lib.rt:174:15
 number-requires-2 : tie.Need-number-requires-2
 number-requires-2 c κs = search needs
 
--- src/lib.rt:174:15
 cast-day : tie.Need-cast-day
 cast-day c = search needs
 
--- src/lib.rt:175:9
 number-requires-3 : tie.Need-number-requires-3
 number-requires-3 c κs = search needs
 
--- src/lib.rt:176:9
 number-requires-4 : tie.Need-number-requires-4
 number-requires-4 c κs = search needs
 
--- src/lib.rt:177:18
 number-requires-5 : tie.Need-number-requires-5
 number-requires-5 c κs = search needs
 
--- src/lib.rt:177:18
 cast-digits : tie.Need-cast-digits
 cast-digits c = search needs
 
--- src/lib.rt:179:9
 returns : tie.Need-returns
 returns c = (λ i. Frame (Exchange (c .before .before .before .before .number2 .ensures .0 i) (c .before .before .before .number3 .ensures .0 i) (c .before .before .number4 .ensures .0 i) (c .before .number5 .ensures .0 i))) ∙ sym (frame-at (c .before .before .before .before .before .before .before .args .line .now) 24 5 (c .before .before .before .before .before .before .before .pre .0) (sym (c .before .before .before .before .before .number .ensures .0) ∙ c .if1 .taken))
 
--- src/lib.rt:168:1
 returns-2 : tie.Need-returns-2
 returns-2 c = sym (frame-at (c .before .before .before .before .before .before .before .args .line .now) 24 (c .before .before .before .before .before .number .result) (c .before .before .before .before .before .before .before .pre .0) (sym (c .before .before .before .before .before .number .ensures .0)) ∙ rw (ne-eqb (c .before .before .before .before .before .number .result) 5 (c .if1 .left)) refl)
 

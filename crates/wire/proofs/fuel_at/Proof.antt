@@ -1,24 +1,16 @@
-use mathlib.Core.Path.{refl}
 use borrow.Author.Needs.{needs}
 use Rattle.wire.proofs.fuel_at.Statement.{statement}
 use Rattle.wire.proofs.fuel_at.Tie as tie
-use Rattle.wire.proofs.fuel_at.Reads as reads
-use Rattle.wire.proofs.fuel_at.Lts as lts
-use Rattle.wire.proofs.number.Reads as number-reads
 
--- src/lib.rt:95:14
 number-requires : tie.Need-number-requires
 number-requires c κs = search needs
 
--- src/lib.rt:96:31
 add-number : tie.Need-add-number
 add-number c = search needs
 
--- src/lib.rt:96:18
 number-requires-2 : tie.Need-number-requires-2
 number-requires-2 c κs = search needs
 
--- src/lib.rt:89:1
 returns : tie.Need-returns
 returns c = λ i. record { lng = c .before .number .ensures .0 i; propane = c .number2 .ensures .0 i }
 

@@ -3,22 +3,16 @@ use borrow.Author.Tests.{lt-ltb, le-ltb}
 use borrow.Author.Needs.{needs}
 use Rattle.wire.proofs.glyph_of.Statement.{statement}
 use Rattle.wire.proofs.glyph_of.Tie as tie
-use Rattle.wire.proofs.glyph_of.Reads as reads
-use Rattle.wire.proofs.glyph_of.Lts as lts
 
--- src/lib.rt:224:21
 add-result : tie.Need-add-result
 add-result c = search needs
 
--- src/lib.rt:224:41
 add-result-2 : tie.Need-add-result-2
 add-result-2 c = search needs
 
--- src/lib.rt:220:1
 returns : tie.Need-returns
 returns c = rw (lt-ltb _ 10 (c .if1 .taken)) refl
 
--- src/lib.rt:220:1
 returns-2 : tie.Need-returns-2
 returns-2 c = rw (le-ltb _ 10 (c .if1 .left)) refl
 

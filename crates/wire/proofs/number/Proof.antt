@@ -1,24 +1,17 @@
-use mathlib.Core.Path.{ap, _∙_}
-use lib.ListN.{getD, length-drop}
+use mathlib.Core.Path.{ap, _∙_, _≡_, refl}
+use lib.ListN.{getD, length-drop, length, take, drop}
 use lib.Seq.{take-all, getD-drop}
 use Rattle.lists.proofs.Every.{every-holds}
-use Rattle.wire.specs.Digits.{valueOf}
-use Rattle.wire.proofs.Digits.{power-within, power-next}
-use mathlib.Core.Path.{_≡_, refl, sym}
+use Rattle.wire.specs.Digits.{valueOf, isDigit, numberOf}
+use Rattle.wire.proofs.Digits.{power-within, power-next, number-suc, digit-value, value-small}
 use mathlib.Core.Bool.{true}
 use Prim.Native.Nat.{_+_, _-_, _^_, _≤_, _<_}
 use native.Mathlib.Omega.{arith}
 use native.Mathlib.Numerals.{add-one}
-use lib.ListN.{length, take, drop}
 use borrow.Author.Needs.{needs}
 use Rattle.lists.specs.Every.{every}
-use Rattle.wire.specs.Digits.{isDigit, numberOf}
-use Rattle.wire.proofs.Digits.{number-suc, digit-value, value-small}
 use Rattle.wire.proofs.number.Statement.{statement}
 use Rattle.wire.proofs.number.Tie as tie
-use Rattle.wire.proofs.number.Reads as reads
-use Rattle.wire.proofs.number.Lts as lts
-use Rattle.wire.proofs.digit_or.Reads as digit-or-reads
 
 abbrev Inv-loop : tie.InvT-loop
 Inv-loop line from width n₀ i₀ n i = (i ≤ width) × (n ≡ numberOf (take i (drop from line))) × (n < 16 ^ i)
@@ -36,48 +29,37 @@ value-is c = c .digit-or .ensures ∙ digit-value (getD (c .before .before .befo
 small : (c : tie.After-digit-or Inv-loop μ-loop) → c .digit-or .result ≤ 15
 small c = rw (value-is c) (value-small (getD (c .before .before .before .before .before .args .line .now) (c .before .before .before .before .before .args .from + c .before .before .before .loop .i) 0) (digit c))
 
--- src/lib.rt:60:5
 loop-holds : tie.Need-loop-holds Inv-loop μ-loop
 loop-holds c = (omega arith, refl, omega arith)
 
--- src/lib.rt:61:13
 mul-n : tie.Need-mul-n Inv-loop μ-loop
 mul-n c = omega (arith, power-within (c .before .loop .n) (c .before .loop .i) (c .before .loop .inv .2) (omega arith))
 
--- src/lib.rt:61:36
 add-digit-or : tie.Need-add-digit-or Inv-loop μ-loop
 add-digit-or c = omega arith
 
--- src/lib.rt:61:31
 shared-slice-read-digit-or : tie.Need-shared-slice-read-digit-or Inv-loop μ-loop
 shared-slice-read-digit-or c = omega arith
 
--- src/lib.rt:61:22
 digit-or-requires : tie.Need-digit-or-requires Inv-loop μ-loop
 digit-or-requires c κs = search needs
 
--- src/lib.rt:61:22
 cast-n : tie.Need-cast-n Inv-loop μ-loop
 cast-n c = search needs
 
--- src/lib.rt:61:13
 add-n : tie.Need-add-n Inv-loop μ-loop
 add-n c = omega (arith, small c, power-within (c .before .before .before .loop .n) (c .before .before .before .loop .i) (c .before .before .before .loop .inv .2) (omega arith))
 
--- src/lib.rt:62:9
 add-i : tie.Need-add-i Inv-loop μ-loop
 add-i c = omega arith
 
--- src/lib.rt:60:5
 loop-less : tie.Need-loop-less Inv-loop μ-loop
 loop-less c = omega arith
 
--- src/lib.rt:60:5
 loop-again : tie.Need-loop-again Inv-loop μ-loop
 loop-again c = let within : c .before .before .before .loop .i < length (drop (c .before .before .before .before .before .args .from) (c .before .before .before .before .before .args .line .now)) = rw (length-drop (c .before .before .before .before .before .args .from) (c .before .before .before .before .before .args .line .now)) (omega arith) in
     (omega arith, rw (add-one (c .before .before .before .loop .i), number-suc (drop (c .before .before .before .before .before .args .from) (c .before .before .before .before .before .args .line .now)) (c .before .before .before .loop .i) within, getD-drop (c .before .before .before .before .before .args .from) (c .before .before .before .before .before .args .line .now) (c .before .before .before .loop .i) 0, ← value-is c, ← c .before .before .before .loop .inv .1) refl, rw (add-one (c .before .before .before .loop .i)) (power-next (c .before .before .before .loop .n) (c .digit-or .result) (c .before .before .before .loop .i) (c .before .before .before .loop .inv .2) (small c)))
 
--- src/lib.rt:51:1
 returns : tie.Need-returns Inv-loop μ-loop
 returns c = let done : c .before .loop .i ≡ c .before .before .before .args .width = omega arith in
     rw (← done) (c .before .loop .inv .1, c .before .loop .inv .2)

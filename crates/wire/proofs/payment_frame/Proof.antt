@@ -6,31 +6,22 @@ use Rattle.wire.proofs.Frames.{frame-at}
 use borrow.Author.Needs.{needs}
 use Rattle.wire.proofs.payment_frame.Statement.{statement}
 use Rattle.wire.proofs.payment_frame.Tie as tie
-use Rattle.wire.proofs.payment_frame.Reads as reads
-use Rattle.wire.proofs.payment_frame.Lts as lts
-use Rattle.wire.proofs.number.Reads as number-reads
 
--- src/lib.rt:195:9
 number-requires : tie.Need-number-requires
 number-requires c κs = search needs
 
--- src/lib.rt:196:15
 number-requires-2 : tie.Need-number-requires-2
 number-requires-2 c κs = search needs
 
--- src/lib.rt:196:15
 cast-day : tie.Need-cast-day
 cast-day c = search needs
 
--- src/lib.rt:197:9
 number-requires-3 : tie.Need-number-requires-3
 number-requires-3 c κs = search needs
 
--- src/lib.rt:199:9
 returns : tie.Need-returns
 returns c = (λ i. Frame (Payment (c .before .before .number2 .ensures .0 i) (c .before .number3 .ensures .0 i))) ∙ sym (frame-at (c .before .before .before .before .before .args .line .now) 14 9 (c .before .before .before .before .before .pre .0) (sym (c .before .before .before .number .ensures .0) ∙ c .if1 .taken))
 
--- src/lib.rt:190:1
 returns-2 : tie.Need-returns-2
 returns-2 c = sym (frame-at (c .before .before .before .before .before .args .line .now) 14 (c .before .before .before .number .result) (c .before .before .before .before .before .pre .0) (sym (c .before .before .before .number .ensures .0)) ∙ rw (ne-eqb (c .before .before .before .number .result) 9 (c .if1 .left)) refl)
 

@@ -1,5 +1,5 @@
-use mathlib.Core.Path.{_≡_, refl, sym, ap, _∙_}
-use mathlib.Core.List.{[], _∷_, _++_}
+use mathlib.Core.Path.{_≡_, ap, _∙_}
+use mathlib.Core.List.{_++_}
 use Rattle.wire.specs.Digits.{bytes}
 use Rattle.wire.proofs.Writing.{written-on, length-digits, length-behind}
 use Rattle.wire.specs.Answers.{twosComplement}
@@ -8,56 +8,41 @@ use mir.Val.{toZ, ofZ}
 use borrow.Author.Needs.{needs}
 use Rattle.wire.proofs.put_amounts.Statement.{statement}
 use Rattle.wire.proofs.put_amounts.Tie as tie
-use Rattle.wire.proofs.put_amounts.Reads as reads
-use Rattle.wire.proofs.put_amounts.Lts as lts
-use Rattle.wire.proofs.put_digits.Reads as put-digits-reads
-use Rattle.wire.proofs.twos_complement.Reads as twos-complement-reads
 
 net-bits : (c : tie.After-twos-complement) → c .twos-complement .result ≡ twosComplement (c .before .before .before .before .args .answer .net)
 net-bits c = let same : toZ w32 (ofZ w32 (c .before .before .before .before .args .answer .net)) ≡ c .before .before .before .before .args .answer .net = search needs in
     c .twos-complement .ensures ∙ ap twosComplement same
 
--- src/lib.rt:296:32
 twos-complement-requires : tie.Need-twos-complement-requires
 twos-complement-requires c κs = search needs
 
--- src/lib.rt:296:32
 cast-put-digits : tie.Need-cast-put-digits
 cast-put-digits c = search needs
 
--- src/lib.rt:296:5
 put-digits-requires : tie.Need-put-digits-requires
 put-digits-requires c κs = search needs
 
--- src/lib.rt:297:21
 add-put-digits : tie.Need-add-put-digits
 add-put-digits c = search needs
 
--- src/lib.rt:297:5
 put-digits-requires-2 : tie.Need-put-digits-requires-2
 put-digits-requires-2 c κs = search needs
 
--- src/lib.rt:298:21
 add-put-digits-2 : tie.Need-add-put-digits-2
 add-put-digits-2 c = search needs
 
--- src/lib.rt:298:5
 put-digits-requires-3 : tie.Need-put-digits-requires-3
 put-digits-requires-3 c κs = search needs
 
--- src/lib.rt:299:21
 add-put-digits-3 : tie.Need-add-put-digits-3
 add-put-digits-3 c = search needs
 
--- src/lib.rt:299:5
 put-digits-requires-4 : tie.Need-put-digits-requires-4
 put-digits-requires-4 c κs = search needs
 
--- src/lib.rt:292:1
 same-length : tie.Need-same-length
 same-length c = search needs
 
--- src/lib.rt:292:1
 returns : tie.Need-returns
 returns c = let answer = c .before .before .before .before .before .before .before .before .before .before .before .before .before .before .before .before .before .before .before .args .answer in
     let text = c .before .before .before .before .before .before .before .before .before .before .before .before .before .before .before .before .before .before .before .args .out .now in

@@ -1,22 +1,16 @@
-use mathlib.Core.Path.{_≡_, refl, sym, ap, _∙_}
+use mathlib.Core.Path.{_≡_, refl, ap, _∙_}
 use mathlib.Core.List.{[], _∷_, _++_}
 use Rattle.wire.specs.Digits.{written}
-use Rattle.wire.proofs.Writing.{written-on, length-digits, length-behind}
+use Rattle.wire.proofs.Writing.{written-on, length-head, length-amounts}
 use Prim.Native.Nat.{_+_, _≤_}
 use native.Mathlib.Nat.{add-assoc}
 use native.Mathlib.Omega.{arith}
 use lib.ListN.{length, set, length-append}
 use lib.Seq.{length-sets}
 use Rattle.wire.specs.Answers.{lineFeed, answerHead, shown, answerAmounts, answerFrame, answerLine, longestAnswer}
-use Rattle.wire.proofs.Writing.{length-head, length-amounts}
 use borrow.Author.Needs.{needs}
 use Rattle.wire.proofs.put_answer.Statement.{statement}
 use Rattle.wire.proofs.put_answer.Tie as tie
-use Rattle.wire.proofs.put_answer.Reads as reads
-use Rattle.wire.proofs.put_answer.Lts as lts
-use Rattle.wire.proofs.put_amounts.Reads as put-amounts-reads
-use Rattle.wire.proofs.put_head.Reads as put-head-reads
-use Rattle.wire.proofs.put_volumes.Reads as put-volumes-reads
 
 -- the place behind the volumes
 next-is : (c : tie.After-put-volumes) → c .put-volumes .result ≡ c .before .before .before .before .before .before .before .before .args .at + length (answerHead (c .before .before .before .before .before .before .before .before .args .answer) ++ shown (c .before .before .before .before .before .before .before .before .args .answer))
@@ -50,39 +44,30 @@ behind c =
 most : (c : tie.After-slice-known4) → c .before .before .before .before .before .before .put-volumes .result + 49 ≤ c .before .before .before .before .before .before .before .before .before .before .before .before .before .before .args .at + longestAnswer
 most c = omega (arith, c .before .before .before .before .before .before .put-volumes .ensures .1 .1)
 
--- src/lib.rt:309:5
 put-head-requires : tie.Need-put-head-requires
 put-head-requires c κs = search needs
 
--- src/lib.rt:311:33
 add-put-volumes : tie.Need-add-put-volumes
 add-put-volumes c = search needs
 
--- src/lib.rt:311:9
 put-volumes-requires : tie.Need-put-volumes-requires
 put-volumes-requires c κs = search needs
 
--- src/lib.rt:312:5
 put-amounts-requires : tie.Need-put-amounts-requires
 put-amounts-requires c κs = search needs
 
--- src/lib.rt:313:9
 add-out : tie.Need-add-out
 add-out c = search needs
 
--- src/lib.rt:313:5
 slice-write-out : tie.Need-slice-write-out
 slice-write-out c = search needs
 
--- src/lib.rt:314:5
 add-result : tie.Need-add-result
 add-result c = search needs
 
--- src/lib.rt:303:1
 same-length : tie.Need-same-length
 same-length c = ap length (whole-line c) ∙ length-sets (c .before .before .before .before .before .before .before .before .before .before .before .before .before .before .args .out .now) (c .before .before .before .before .before .before .before .before .before .before .before .before .before .before .args .at) (answerLine (c .before .before .before .before .before .before .before .before .before .before .before .before .before .before .args .answer))
 
--- src/lib.rt:303:1
 returns : tie.Need-returns
 returns c = (whole-line c, (behind c, most c))
 

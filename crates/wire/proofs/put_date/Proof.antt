@@ -7,10 +7,6 @@ use Rattle.wire.proofs.Writing.{written-on, length-digits, length-behin
 use borrow.Author.Needs.{needs}
 use Rattle.wire.proofs.put_date.Statement.{statement}
 use Rattle.wire.proofs.put_date.Tie as tie
-use Rattle.wire.proofs.put_date.Reads as reads
-use Rattle.wire.proofs.put_date.Lts as lts
-use Rattle.calendar.proofs.Day.to_date.Reads as to-date-reads
-use Rattle.wire.proofs.put_digits.Reads as put-digits-reads
 
 date-is : (c : tie.After-found) → toDate (c .before .before .before .before .args .day) ≡ Date (c .found .given .0 .0)
 date-is c = sym (c .before .before .to-date .ensures) ∙ c .found .given .1
@@ -18,59 +14,45 @@ date-is c = sym (c .before .before .to-date .ensures) ∙ c .found .given .1
 none-is : (c : tie.After-enum-told) → toDate (c .before .before .before .before .args .day) ≡ None
 none-is c = sym (c .before .before .to-date .ensures) ∙ c .enum-told .given .1
 
--- src/lib.rt:316:9
 to-date-requires : tie.Need-to-date-requires
 to-date-requires c κs = search needs
 
--- src/lib.rt:318:25
 enum-known-found : tie.Need-enum-known-found
 enum-known-found c = search needs
 
--- src/lib.rt:319:40
 cast-put-digits : tie.Need-cast-put-digits
 cast-put-digits c = search needs
 
--- src/lib.rt:319:13
 put-digits-requires : tie.Need-put-digits-requires
 put-digits-requires c κs = search needs
 
--- src/lib.rt:320:29
 add-put-digits : tie.Need-add-put-digits
 add-put-digits c = search needs
 
--- src/lib.rt:320:44
 cast-put-digits-2 : tie.Need-cast-put-digits-2
 cast-put-digits-2 c = search needs
 
--- src/lib.rt:320:13
 put-digits-requires-2 : tie.Need-put-digits-requires-2
 put-digits-requires-2 c κs = search needs
 
--- src/lib.rt:321:29
 add-put-digits-2 : tie.Need-add-put-digits-2
 add-put-digits-2 c = search needs
 
--- src/lib.rt:321:44
 cast-put-digits-3 : tie.Need-cast-put-digits-3
 cast-put-digits-3 c = search needs
 
--- src/lib.rt:321:13
 put-digits-requires-3 : tie.Need-put-digits-requires-3
 put-digits-requires-3 c κs = search needs
 
--- src/lib.rt:324:24
 enum-told : tie.Need-enum-told
 enum-told c = search needs
 
--- src/lib.rt:324:13
 put-digits-requires-4 : tie.Need-put-digits-requires-4
 put-digits-requires-4 c κs = search needs
 
--- src/lib.rt:312:1
 same-length : tie.Need-same-length
 same-length c = search needs
 
--- src/lib.rt:312:1
 returns : tie.Need-returns
 returns c = let date = c .before .before .before .before .before .before .before .before .before .before .before .before .before .before .before .before .found .given .0 .0 in
     let text = c .before .before .before .before .before .before .before .before .before .before .before .before .before .before .before .before .before .before .before .before .args .out .now in
@@ -82,11 +64,9 @@ returns c = let date = c .before .before .before .before .before .before .before
     rw (date-is (c .before .before .before .before .before .before .before .before .before .before .before .before .before .before .before .before))
     (written-on text at (year ++ month) (digits 10 2 (date .day)) 6 (length-behind year month 4 2 (length-digits 10 4 (date .year)) (length-digits 10 2 (date .month))) two (c .before .before .put-digits3 .ensures))
 
--- src/lib.rt:312:1
 same-length-2 : tie.Need-same-length-2
 same-length-2 c = search needs
 
--- src/lib.rt:312:1
 returns-2 : tie.Need-returns-2
 returns-2 c = rw (none-is (c .before .before .before .before)) (c .before .before .put-digits4 .ensures)
 

@@ -1,18 +1,12 @@
-use Prim.Native.Nat.{_+_, _-_}
+use Prim.Native.Nat.{_+_, _-_, _≤_}
 use native.Mathlib.Nat.{mod-lt}
-use lib.ListN.{length-set}
+use lib.ListN.{length-set, length}
 use Rattle.wire.proofs.Writing.{written-next}
-use mathlib.Core.Path.{_≡_, refl, sym, ap, _∙_}
-use Prim.Native.Nat.{_≤_}
+use mathlib.Core.Path.{_≡_, refl, sym, _∙_}
 use native.Mathlib.Omega.{arith}
-use lib.ListN.{length}
 use Rattle.wire.specs.Digits.{digits, written}
-use Rattle.wire.proofs.Writing.{written-digit}
 use Rattle.wire.proofs.put_digits.Statement.{statement}
 use Rattle.wire.proofs.put_digits.Tie as tie
-use Rattle.wire.proofs.put_digits.Reads as reads
-use Rattle.wire.proofs.put_digits.Lts as lts
-use Rattle.wire.proofs.glyph_of.Reads as glyph-of-reads
 
 abbrev Inv-loop : tie.InvT-loop
 Inv-loop out₀ at base width value rest₀ i₀ out rest i = (i ≤ width) × (length out ≡ length out₀) × (written out₀ at (digits base width value) ≡ written out at (digits base i rest))
@@ -20,43 +14,33 @@ Inv-loop out₀ at base width value rest₀ i₀ out rest i = (i ≤ width) × (
 abbrev μ-loop : tie.MeasureT-loop
 μ-loop out₀ at base width value rest₀ i₀ out rest i = i
 
--- src/lib.rt:236:5
 loop-holds : tie.Need-loop-holds Inv-loop μ-loop
 loop-holds c = (omega arith, refl, refl)
 
--- src/lib.rt:237:9
 sub-i : tie.Need-sub-i Inv-loop μ-loop
 sub-i c = omega arith
 
--- src/lib.rt:238:33
 rem-glyph-of : tie.Need-rem-glyph-of Inv-loop μ-loop
 rem-glyph-of c = omega arith
 
--- src/lib.rt:238:32
 cast-glyph-of : tie.Need-cast-glyph-of Inv-loop μ-loop
 cast-glyph-of c = record { fits = omega (arith, mod-lt (c .before .loop .rest) {m = c .before .before .before .args .base} (omega arith)) }
 
--- src/lib.rt:238:23
 glyph-of-requires : tie.Need-glyph-of-requires Inv-loop μ-loop
 glyph-of-requires c κs = omega (arith, mod-lt (c .before .loop .rest) {m = c .before .before .before .args .base} (omega arith))
 
--- src/lib.rt:238:13
 add-out : tie.Need-add-out Inv-loop μ-loop
 add-out c = omega arith
 
--- src/lib.rt:238:9
 slice-write-out : tie.Need-slice-write-out Inv-loop μ-loop
 slice-write-out c = omega arith
 
--- src/lib.rt:239:16
 div-rest : tie.Need-div-rest Inv-loop μ-loop
 div-rest c = omega arith
 
--- src/lib.rt:236:5
 loop-less : tie.Need-loop-less Inv-loop μ-loop
 loop-less c = omega arith
 
--- src/lib.rt:236:5
 loop-again : tie.Need-loop-again Inv-loop μ-loop
 loop-again c = (
   omega arith,
@@ -64,11 +48,9 @@ loop-again c = (
   c .before .before .loop .inv .2 ∙ written-next (c .before .before .loop .out) (c .before .before .before .before .args .at) (c .before .before .before .before .args .base) (c .before .before .loop .i) (c .before .before .loop .rest) (omega arith) ∙ rw (c .glyph-of .ensures) refl,
 )
 
--- src/lib.rt:228:1
 same-length : tie.Need-same-length Inv-loop μ-loop
 same-length c = c .before .loop .inv .1
 
--- src/lib.rt:228:1
 returns : tie.Need-returns Inv-loop μ-loop
 unfolding digits
 returns c = let done : c .before .loop .i ≡ 0 = omega arith in

@@ -1,47 +1,34 @@
-use mathlib.Core.Path.{_≡_, refl, sym, ap, _∙_}
-use mathlib.Core.List.{[], _∷_, _++_}
+use mathlib.Core.List.{_++_}
 use Rattle.wire.specs.Digits.{bytes}
 use Rattle.wire.proofs.Writing.{written-on, length-digits, length-behind}
 use borrow.Author.Needs.{needs}
 use Rattle.wire.proofs.put_head.Statement.{statement}
 use Rattle.wire.proofs.put_head.Tie as tie
-use Rattle.wire.proofs.put_head.Reads as reads
-use Rattle.wire.proofs.put_head.Lts as lts
-use Rattle.wire.proofs.put_digits.Reads as put-digits-reads
 
--- src/lib.rt:286:32
 cast-put-digits : tie.Need-cast-put-digits
 cast-put-digits c = search needs
 
--- src/lib.rt:286:5
 put-digits-requires : tie.Need-put-digits-requires
 put-digits-requires c κs = search needs
 
--- src/lib.rt:287:21
 add-put-digits : tie.Need-add-put-digits
 add-put-digits c = search needs
 
--- src/lib.rt:287:36
 cast-put-digits-2 : tie.Need-cast-put-digits-2
 cast-put-digits-2 c = search needs
 
--- src/lib.rt:287:5
 put-digits-requires-2 : tie.Need-put-digits-requires-2
 put-digits-requires-2 c κs = search needs
 
--- src/lib.rt:288:21
 add-put-digits-2 : tie.Need-add-put-digits-2
 add-put-digits-2 c = search needs
 
--- src/lib.rt:288:5
 put-digits-requires-3 : tie.Need-put-digits-requires-3
 put-digits-requires-3 c κs = search needs
 
--- src/lib.rt:282:1
 same-length : tie.Need-same-length
 same-length c = search needs
 
--- src/lib.rt:282:1
 returns : tie.Need-returns
 returns c = let answer = c .before .before .before .before .before .before .before .before .before .before .before .before .before .before .before .args .answer in
     let text = c .before .before .before .before .before .before .before .before .before .before .before .before .before .before .before .args .out .now in

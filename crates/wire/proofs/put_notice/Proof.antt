@@ -1,21 +1,15 @@
-use mathlib.Core.Path.{_≡_, refl, sym, ap, _∙_}
+use mathlib.Core.Path.{_≡_, refl, ap, _∙_}
 use mathlib.Core.List.{[], _∷_, _++_}
 use Rattle.wire.specs.Digits.{bytes, written}
-use Rattle.wire.proofs.Writing.{written-on, length-digits, length-behind}
+use Rattle.wire.proofs.Writing.{written-on, length-digits, length-behind, length-date}
 use Prim.Native.Nat.{_+_}
 use lib.ListN.{length, set}
 use lib.Seq.{length-sets}
 use Rattle.calendar.specs.Conversions.{toDate}
 use Rattle.wire.specs.Notices.{kindNumber, dateDigits, noticeLine}
-use Rattle.wire.proofs.Writing.{length-date}
 use borrow.Author.Needs.{needs}
 use Rattle.wire.proofs.put_notice.Statement.{statement}
 use Rattle.wire.proofs.put_notice.Tie as tie
-use Rattle.wire.proofs.put_notice.Reads as reads
-use Rattle.wire.proofs.put_notice.Lts as lts
-use Rattle.wire.proofs.kind_number.Reads as kind-number-reads
-use Rattle.wire.proofs.put_date.Reads as put-date-reads
-use Rattle.wire.proofs.put_digits.Reads as put-digits-reads
 
 whole-line : (c : tie.After-slice-known5) → set (c .before .before .put-digits2 .last .0) (c .before .before .before .before .before .before .before .before .before .before .before .before .before .before .before .before .before .before .args .at + 34) 10 ≡ written (c .before .before .before .before .before .before .before .before .before .before .before .before .before .before .before .before .before .before .args .out .now) (c .before .before .before .before .before .before .before .before .before .before .before .before .before .before .before .before .before .before .args .at) (noticeLine (c .before .before .before .before .before .before .before .before .before .before .before .before .before .before .before .before .before .before .args .item))
 unfolding noticeLine
@@ -35,51 +29,39 @@ whole-line c = let item = c .before .before .before .before .before .before .bef
     let four = written-on text at (kind ++ obligation ++ due) unpaid 18 long-three three (c .before .before .put-digits2 .ensures) in
     written-on text at (kind ++ obligation ++ due ++ unpaid) (10 ∷ []) 34 (length-behind (kind ++ obligation ++ due) unpaid 18 16 long-three (length-digits 16 16 (item .unpaid))) four refl
 
--- src/lib.rt:335:32
 kind-number-requires : tie.Need-kind-number-requires
 kind-number-requires c κs = search needs
 
--- src/lib.rt:335:5
 put-digits-requires : tie.Need-put-digits-requires
 put-digits-requires c κs = search needs
 
--- src/lib.rt:336:19
 add-put-date : tie.Need-add-put-date
 add-put-date c = search needs
 
--- src/lib.rt:336:5
 put-date-requires : tie.Need-put-date-requires
 put-date-requires c κs = search needs
 
--- src/lib.rt:337:19
 add-put-date-2 : tie.Need-add-put-date-2
 add-put-date-2 c = search needs
 
--- src/lib.rt:337:5
 put-date-requires-2 : tie.Need-put-date-requires-2
 put-date-requires-2 c κs = search needs
 
--- src/lib.rt:338:21
 add-put-digits : tie.Need-add-put-digits
 add-put-digits c = search needs
 
--- src/lib.rt:338:5
 put-digits-requires-2 : tie.Need-put-digits-requires-2
 put-digits-requires-2 c κs = search needs
 
--- src/lib.rt:339:9
 add-out : tie.Need-add-out
 add-out c = search needs
 
--- src/lib.rt:339:5
 slice-write-out : tie.Need-slice-write-out
 slice-write-out c = search needs
 
--- src/lib.rt:330:1
 same-length : tie.Need-same-length
 same-length c = ap length (whole-line c) ∙ length-sets (c .before .before .before .before .before .before .before .before .before .before .before .before .before .before .before .before .before .before .args .out .now) (c .before .before .before .before .before .before .before .before .before .before .before .before .before .before .before .before .before .before .args .at) (noticeLine (c .before .before .before .before .before .before .before .before .before .before .before .before .before .before .before .before .before .before .args .item))
 
--- src/lib.rt:330:1
 returns : tie.Need-returns
 returns c = whole-line c
 

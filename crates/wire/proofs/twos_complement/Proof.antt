@@ -3,8 +3,6 @@ use Rattle.ledger.proofs.Signed.{nonnegative}
 use Rattle.wire.proofs.Answers.{Turned, turned, as-it-is, magnitude-fits}
 use Rattle.wire.proofs.twos_complement.Statement.{statement}
 use Rattle.wire.proofs.twos_complement.Tie as tie
-use Rattle.wire.proofs.twos_complement.Reads as reads
-use Rattle.wire.proofs.twos_complement.Lts as lts
 
 turned-is : (c : tie.Then1) → Turned (c .before .args .net)
 turned-is c = turned (c .before .args .net) (c .before .fits .net) (rw (toZ-ofZ (c .before .fits .net)) at (c .if1 .taken))
@@ -12,16 +10,13 @@ turned-is c = turned (c .before .args .net) (c .before .fits .net) (rw (toZ-ofZ 
 cast-result : tie.Need-cast-result
 cast-result c = (turned-is c .is-natural, turned-is c .fits)
 
--- src/lib.rt:248:9
 returns : tie.Need-returns
 returns c = turned-is c .back
 
--- src/lib.rt:250:5
 cast-result-2 : tie.Need-cast-result-2
 cast-result-2 c = let fits = c .before .fits .net in
     rw (toZ-ofZ fits) (nonnegative (c .before .args .net) (rw (toZ-ofZ fits) at (c .if1 .left)), magnitude-fits (c .before .args .net) fits)
 
--- src/lib.rt:244:1
 returns-2 : tie.Need-returns-2
 returns-2 c = let fits = c .before .fits .net in
     rw (toZ-ofZ fits) (as-it-is (c .before .args .net) (rw (toZ-ofZ fits) at (c .if1 .left)))
