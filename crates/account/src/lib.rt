@@ -4,9 +4,9 @@ ghost use Rattle.account.specs.declared.Call.the-variants.{Opening, Read
 ghost use Rattle.account.specs.Calls.{newAccount};
 ghost use Rattle.account.specs.Outcomes.{outcome};
 
-pub mod closing;
-pub mod refusals;
-pub mod validity;
+mod closing;
+mod refusals;
+mod validity;
 pub mod whole;
 
 use crate::validity::is_whole;

@@ -134,7 +134,7 @@ fn begin_period(account: Account, day: u16, reading: u32, digits: u8, start: u16
 }
 
 // 01
-pub fn begin_supply(account: Account, day: u16, reading: u32, digits: u8) -> Outcome
+fn begin_supply(account: Account, day: u16, reading: u32, digits: u8) -> Outcome
     requires { ⌜ whole account ≡ true ⌝ }
     ensures { λ r. ⌜ r ≡ outcome account (Opening day reading digits) ⌝ }
 {
@@ -155,7 +155,7 @@ fn resumed_start(stop: u16, day: u16) -> u16
 }
 
 // 07
-pub fn reconnect(account: Account, day: u16, reading: u32, digits: u8) -> Outcome
+fn reconnect(account: Account, day: u16, reading: u32, digits: u8) -> Outcome
     requires { ⌜ whole account ≡ true ⌝ }
     ensures { λ r. ⌜ r ≡ outcome account (Reconnection day reading digits) ⌝ }
 {
@@ -169,7 +169,7 @@ pub fn reconnect(account: Account, day: u16, reading: u32, digits: u8) -> Outcom
 }
 
 // 05: the old meter's advance goes to the pool, and the new meter goes on. No period closes.
-pub fn exchange_meter(mut account: Account, day: u16, old: u32, new: u32, digits: u8) -> Outcome
+fn exchange_meter(mut account: Account, day: u16, old: u32, new: u32, digits: u8) -> Outcome
     requires { ⌜ whole account ≡ true ⌝ }
     ensures { λ r. ⌜ r ≡ outcome account (Exchange day old new digits) ⌝ }
 {
@@ -262,7 +262,7 @@ fn close_cancelled(account: Account, day: u16, reading: u32, fuel: Fuel) -> Outc
 }
 
 // 02
-pub fn read_meter(account: Account, day: u16, reading: u32, fuel: Fuel) -> Outcome
+fn read_meter(account: Account, day: u16, reading: u32, fuel: Fuel) -> Outcome
     requires { ⌜ whole account ≡ true ⌝ }
     ensures { λ r. ⌜ r ≡ outcome account (Reading day reading fuel) ⌝ }
 {
@@ -280,7 +280,7 @@ pub fn read_meter(account: Account, day: u16, reading: u32, fuel: Fuel) -> Outco
 }
 
 // 06
-pub fn disconnect(account: Account, day: u16, reading: u32, fuel: Fuel) -> Outcome
+fn disconnect(account: Account, day: u16, reading: u32, fuel: Fuel) -> Outcome
     requires { ⌜ whole account ≡ true ⌝ }
     ensures { λ r. ⌜ r ≡ outcome account (Disconnection day reading fuel) ⌝ }
 {
@@ -292,7 +292,7 @@ pub fn disconnect(account: Account, day: u16, reading: u32, fuel: Fuel) -> Outco
 }
 
 // 08
-pub fn cancel(account: Account, day: u16, reading: u32, fuel: Fuel) -> Outcome
+fn cancel(account: Account, day: u16, reading: u32, fuel: Fuel) -> Outcome
     requires { ⌜ whole account ≡ true ⌝ }
     ensures { λ r. ⌜ r ≡ outcome account (Cancellation day reading fuel) ⌝ }
 {
@@ -373,7 +373,7 @@ fn estimate_answer(volume: u32, charged: u32, interest: u64) -> Answer
 }
 
 // 03: the volume of the period just before.
-pub fn miss_reading(account: Account, day: u16, fuel: Fuel) -> Outcome
+fn miss_reading(account: Account, day: u16, fuel: Fuel) -> Outcome
     requires { ⌜ whole account ≡ true ⌝ }
     ensures { λ r. ⌜ r ≡ outcome account (Missed day fuel) ⌝ }
 {
@@ -385,7 +385,7 @@ pub fn miss_reading(account: Account, day: u16, fuel: Fuel) -> Outcome
 }
 
 // 04: 0.
-pub fn note_absence(account: Account, day: u16, fuel: Fuel) -> Outcome
+fn note_absence(account: Account, day: u16, fuel: Fuel) -> Outcome
     requires { ⌜ whole account ≡ true ⌝ }
     ensures { λ r. ⌜ r ≡ outcome account (Absent day fuel) ⌝ }
 {
@@ -416,7 +416,7 @@ fn receive(mut account: Account, day: u16, yen: u32) -> Outcome
 }
 
 // 09
-pub fn pay(account: Account, day: u16, yen: u32) -> Outcome
+fn pay(account: Account, day: u16, yen: u32) -> Outcome
     requires { ⌜ whole account ≡ true ⌝ }
     ensures { λ r. ⌜ r ≡ outcome account (Payment day yen) ⌝ }
 {
@@ -428,7 +428,7 @@ pub fn pay(account: Account, day: u16, yen: u32) -> Outcome
 }
 
 // 0a: interest held is posted, as by a closing with no net.
-pub fn cancel_stopped(account: Account, day: u16) -> Outcome
+fn cancel_stopped(account: Account, day: u16) -> Outcome
     requires { ⌜ whole account ≡ true ⌝ }
     ensures { λ r. ⌜ r ≡ outcome account (StoppedCancellation day) ⌝ }
 {

@@ -101,7 +101,7 @@ loop-again-2 c = (
   omega arith,
   c .before .before .before .before .loop .inv .2,
   length-set (c .before .before .before .before .loop .line) (c .before .before .before .before .loop .length) (getD (c .before .before .before .before .before .before .before .before .before .args .input .now) (c .before .before .before .before .loop .taken) 0) ∙ c .before .before .before .before .loop .inv .3,
-  byte-kept (feeding (length (c .before .before .before .before .before .before .before .before .before .args .out .now)) (c .before .before .before .before .before .before .before .before .before .args .session) (c .before .before .before .before .before .before .before .before .before .args .input .now)) (c .before .before .before .before .before .before .before .before .before .args .out .now) (c .before .before .before .before .loop .taken) (c .before .before .before .before .loop .written) (length (c .before .before .before .before .before .before .before .before .before .args .out .now)) (session (c .before .before .before .before .loop .account) (c .before .before .before .before .loop .length) (c .before .before .before .before .loop .line)) (c .before .before .before .before .before .before .before .before .before .args .input .now) (c .before .before .before .before .loop .out) (c .before .before .before .before .loop .inv .4) (omega arith) (c .before .if1 .left) (session (c .before .before .before .before .loop .account) (c .before .before .before .before .loop .length + 1) (set (c .before .before .before .before .loop .line) (c .before .before .before .before .loop .length) (getD (c .before .before .before .before .before .before .before .before .before .args .input .now) (c .before .before .before .before .loop .taken) 0))) (kept-within (c .before .before .before .before .loop .account) (c .before .before .before .before .loop .length) (c .before .before .before .before .loop .line) (getD (c .before .before .before .before .before .before .before .before .before .args .input .now) (c .before .before .before .before .loop .taken) 0) (c .if3 .taken)),
+  byte-kept (feeding (length (c .before .before .before .before .before .before .before .before .before .args .out .now)) (c .before .before .before .before .before .before .before .before .before .args .session) (c .before .before .before .before .before .before .before .before .before .args .input .now)) (c .before .before .before .before .before .before .before .before .before .args .out .now) (c .before .before .before .before .loop .taken) (c .before .before .before .before .loop .written) (length (c .before .before .before .before .before .before .before .before .before .args .out .now)) (session (c .before .before .before .before .loop .account) (c .before .before .before .before .loop .length) (c .before .before .before .before .loop .line)) (c .before .before .before .before .before .before .before .before .before .args .input .now) (c .before .before .before .before .loop .out) (c .before .before .before .before .loop .inv .4) (omega arith) (c .before .if1 .left) (session (c .before .before .before .before .loop .account) (c .before .before .before .before .loop .length + 1) (set (c .before .before .before .before .loop .line) (c .before .before .before .before .loop .length) (getD (c .before .before .before .before .before .before .before .before .before .args .input .now) (c .before .before .before .before .loop .taken) 0))) (kept-within (c .before .before .before .before .loop .account) (c .before .before .before .before .loop .length) (c .before .before .before .before .loop .line) (getD (c .before .before .before .before .before .before .before .before .before .args .input .now) (c .before .before .before .before .loop .taken) 0) (omega (arith, c .if3 .taken))),
   c .before .before .before .before .loop .inv .5,
 )
 
