@@ -6,3 +6,4 @@ pub mod Sound
 pub mod Nets
 pub mod Ready
 pub mod Concluding
+pub mod LightCalls

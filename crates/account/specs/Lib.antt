@@ -5,3 +5,4 @@ pub mod Calls
 pub mod Whole
 pub mod Refusals
 pub mod Outcomes
+pub mod LightCalls

@@ -5,6 +5,7 @@ ghost use Rattle.account.specs.Calls.{newAccount};
 ghost use Rattle.account.specs.Outcomes.{outcome};
 
 mod closing;
+pub mod light;
 mod refusals;
 mod validity;
 pub mod whole;

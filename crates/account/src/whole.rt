@@ -104,7 +104,7 @@ fn finish(before: Account, after: Account, mut answer: Answer) -> Outcome
 }
 
 // The answer of a call that closes no period.
-fn quiet_answer(interest: u64) -> Answer
+pub fn quiet_answer(interest: u64) -> Answer
     ensures { λ r. ⌜ r ≡ record { number = 0; estimated = 0; volumes = volumesOf []; net = pos 0; interest = interest; unpaid = 0; credit = 0 } ⌝ }
 {
     Answer {

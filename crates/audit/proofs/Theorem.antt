@@ -10,6 +10,8 @@ use borrow.Author.Tests.{eqb-true}
 use Rattle.lists.specs.Sum.{total, sum}
 use Rattle.lists.proofs.Pad.{take-pad}
 use Rattle.ledger.specs.Settling.{unpaidOf}
+use Rattle.ledger.specs.Posting.{stored}
+use Rattle.ledger.specs.Oldest.{Tidy}
 use Rattle.account.specs.declared.Account.{Account}
 use Rattle.account.specs.declared.Call.{Call}
 use Rattle.account.specs.declared.Outcome.{Outcome}
@@ -143,6 +145,12 @@ reconciled calls =
       is-whole = unfold whole in (facts-whole (r .account .status) (r .account) (h .matched .facts));
       declined = declined-leaves r;
     }
+
+-- The array holds what stands on the ledger, and blanks behind it.
+pub tidy : (calls : List Call) → Tidy (run start calls .account .ledger)
+tidy calls =
+    let balanced = run-holds start calls start-holds .matched .balanced in
+    balanced .stored-as ∙ ap stored (sym (standing-is balanced))
 
 -- What runs is the run of its calls.
 seen-is : (r : Run) (done : List Done) → Ran (r .account) done → seen r done ≡ run r (map (λ d. d .call) done)

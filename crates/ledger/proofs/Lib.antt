@@ -6,3 +6,4 @@ pub mod Posting
 pub mod Cover
 pub mod Paying
 pub mod Signed
+pub mod Oldest

@@ -2,3 +2,4 @@
 pub mod Interest
 pub mod Settling
 pub mod Posting
+pub mod Oldest

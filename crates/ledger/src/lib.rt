@@ -8,6 +8,7 @@ ghost use Rattle.lists.specs.Pad.{pad};
 ghost use Rattle.ledger.specs.declared.Item.{Item};
 ghost use Rattle.ledger.specs.Interest.{isPrice, body, interestOn};
 ghost use Rattle.ledger.specs.Settling.{unpaidOf};
+ghost use Rattle.ledger.specs.Oldest.{oldest, withOldest};
 ghost use Rattle.ledger.specs.Posting.{Standing, stored, standing, entered, post, closed, paid, heldPosted, coverage, blank, capacity, chargeOf, creditOf, OpenBounds, LedgerBounds, NetBounds, Ready};
 
 pub enum Kind {
@@ -75,6 +76,25 @@ impl Ledger {
             i += 1;
         }
         sum
+    }
+
+    // What is unpaid of the oldest item.
+    pub fn oldest_unpaid(self) -> u64
+        ensures { λ r. ⌜ r ≡ oldest self .unpaid ⌝ }
+    {
+        let item = self.items[0];
+        item.unpaid
+    }
+
+    // Another amount unpaid of the oldest item, and another credit.
+    pub fn with_oldest(mut self, unpaid: u64, credit: u64) -> Ledger
+        ensures { λ r. ⌜ r ≡ withOldest self unpaid credit ⌝ }
+    {
+        let mut item = self.items[0];
+        item.unpaid = unpaid;
+        self.items[0] = item;
+        self.credit = credit;
+        self
     }
 
     // As many items from the front as an amount covers: 28.

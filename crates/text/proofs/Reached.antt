@@ -3,13 +3,14 @@ use mathlib.Core.Path.{_≡_, refl, sym, ap, _∙_}
 use mathlib.Core.Bool.{true}
 use mathlib.Core.List.{List, [], _∷_, _++_}
 use Prim.Native.Nat.{ℕ}
+use Rattle.ledger.specs.Oldest.{Tidy}
 use Rattle.account.specs.declared.Account.{Account}
 use Rattle.account.specs.declared.Call.{Call}
 use Rattle.account.specs.Calls.{newAccount}
 use Rattle.account.specs.Outcomes.{outcome}
 use Rattle.account.specs.Whole.{whole}
 use Rattle.audit.specs.Claim.{Run, start, step, run}
-use Rattle.audit.proofs.Theorem.{reconciled}
+use Rattle.audit.proofs.Theorem.{reconciled, tidy}
 use Rattle.wire.specs.declared.Parsed.{Parsed}
 use Rattle.wire.specs.declared.Parsed.the-variants.{Frame, NotAFrame}
 use Rattle.wire.specs.Frames.{parsed}
@@ -19,6 +20,9 @@ use Rattle.text.proofs.Sums.{account-run}
 
 pub reached-whole : (a : Account) → Reached a → whole a ≡ true
 reached-whole a r = rw (r .account-is) (reconciled (r .calls) .is-whole)
+
+pub reached-tidy : (a : Account) → Reached a → Tidy (a .ledger)
+reached-tidy a r = rw (r .account-is) (tidy (r .calls))
 
 pub reached-new : Reached newAccount
 unfolding run
