@@ -1,11 +1,11 @@
 -- Laws of writing. Assumes nothing.
 use mathlib.Core.Path.{_≡_, refl, sym, ap, _∙_}
 use mathlib.Core.List.{List, [], _∷_, _++_}
-use Prim.Native.Nat.{ℕ, zero, suc, _+_, _-_, _/_, _%_, _≤_}
-use native.Mathlib.Nat.{add-zero, add-suc, suc-add, not-suc-le-zero}
+use Prim.Native.Nat.{ℕ, zero, suc, _+_, _-_, _/_, _%_, _≤_, _<_}
+use native.Mathlib.Nat.{add-zero, add-suc, suc-add, not-suc-le-zero, zero-div, zero-mod}
 use native.Mathlib.Omega.{arith}
 use native.Mathlib.Numerals.{add-one}
-use lib.ListN.{length, set, take, length-append}
+use lib.ListN.{length, set, take, replicate, length-append, replicate-append-replicate}
 use lib.Seq.{set-comm, take-all}
 use Rattle.wire.specs.Digits.{glyph, digits, bytes, written}
 use Rattle.calendar.specs.declared.FoundDate.{FoundDate}
@@ -50,6 +50,19 @@ written-next text at base (suc k) n h = rw (suc-sub-one k) (written-digit text a
   where
     suc-sub-one : (m : ℕ) → suc m - 1 ≡ m
     suc-sub-one m = omega arith
+
+-- Zero is so many characters 0.
+pub digits-zero : (base k : ℕ) → digits base k 0 ≡ replicate k 48
+unfolding digits
+digits-zero base zero = refl
+digits-zero base (suc k) = rw (zero-div base, zero-mod base, digits-zero base k, replicate-append-replicate {A = ℕ} k 1 48, add-one k) refl
+
+-- One character more of a run.
+pub written-run : (text : List ℕ) (at i k y : ℕ) → i < k → written text (at + i) (replicate (k - i) y) ≡ written (set text (at + i) y) (at + (i + 1)) (replicate (k - (i + 1)) y)
+written-run text at i k y h =
+    let more : k - i ≡ suc (k - (i + 1)) = omega arith in
+    let next : suc (at + i) ≡ at + (i + 1) = omega arith in
+    ap (λ n. written text (at + i) (replicate n y)) more ∙ ap (λ n. written (set text (at + i) y) n (replicate (k - (i + 1)) y)) next
 
 -- Texts of so many bytes.
 pub length-behind : (xs ys : List ℕ) (m n : ℕ) → length xs ≡ m → length ys ≡ n → length (xs ++ ys) ≡ m + n

@@ -2,7 +2,7 @@
 ghost use mathlib.Core.Path.{_≡_};
 ghost use mathlib.Core.Bool.{true};
 ghost use Prim.Native.Nat.{_+_, _*_, _^_, _≤_, _<_};
-ghost use lib.ListN.{length, take, drop};
+ghost use lib.ListN.{length, take, drop, replicate};
 ghost use Rattle.lists.specs.Every.{every};
 ghost use Rattle.wire.specs.Digits.{isDigit, numberOf, digitOr, glyph, digits, written};
 ghost use Rattle.calendar.specs.Conversions.{toDate};
@@ -232,6 +232,18 @@ fn glyph_of(digit: u8) -> u8
     if digit < 10 { 48 + digit } else { 87 + digit }
 }
 
+// So many characters 0, from a place on.
+fn put_zeros(out: &mut [u8], at: usize, width: usize)
+    requires { ⌜ at + width ≤ length (now out) ⌝ }
+    ensures { λ _. ⌜ now (out .exit) ≡ written (now (out .entry)) at (replicate width 48) ⌝ }
+{
+    let mut i: usize = 0;
+    while i < width {
+        out[at + i] = 48;
+        i += 1;
+    }
+}
+
 // The last digits of a number in a base, from a place on.
 fn put_digits(out: &mut [u8], at: usize, base: u64, width: usize, value: u64)
     requires { ⌜ at + width ≤ length (now out) ⌝ }
@@ -239,6 +251,10 @@ fn put_digits(out: &mut [u8], at: usize, base: u64, width: usize, value: u64)
     requires { ⌜ base ≤ 16 ⌝ }
     ensures { λ _. ⌜ now (out .exit) ≡ written (now (out .entry)) at (digits base width value) ⌝ }
 {
+    if value == 0 {
+        put_zeros(out, at, width);
+        return;
+    }
     let mut rest = value;
     let mut i = width;
     while i > 0 {
