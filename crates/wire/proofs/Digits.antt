@@ -1,13 +1,14 @@
 -- Laws of digits. Assumes nothing.
 use mathlib.Core.Path.{_≡_, refl, sym, ap, _∙_}
 use mathlib.Core.Bool.{Bool, true, false, cond, _&&_, _||_, true≢false}
+use mathlib.Core.Logic.{⊎-elim}
 use mathlib.Core.List.{List, [], _∷_, _++_}
 use Prim.Native.Nat.{ℕ, suc, _+_, _-_, _*_, _^_, _≤_, _<_}
-use native.Mathlib.Nat.{lt-of-lt-of-le, pow-suc, pow-le-pow-right}
+use native.Mathlib.Nat.{eq-or-lt-of-le, ne-of-lt, lt-of-lt-of-le, pow-suc, pow-le-pow-right}
 use native.Mathlib.Omega.{arith}
 use lib.Dec.{leb}
-use lib.ListN.{length, getD, take}
-use lib.Seq.{take-suc}
+use lib.ListN.{length, getD, set, take}
+use lib.Seq.{take-suc, getD-set-same, getD-set-other}
 use borrow.Author.Tests.{leb-true, le-leb, lt-leb}
 use Rattle.wire.specs.Digits.{isDigit, valueOf, digitOr, numberFrom, numberOf}
 
@@ -76,6 +77,16 @@ large-digit c h = go (isDigit c) refl
       where
         never : 15 < valueOf c → ⊥
         never k = omega (arith, k, value-small c e)
+
+-- One place more of a table.
+pub shows-next : (table : List ℕ) (i : ℕ) → i < length table → ((c : ℕ) → c < i → getD table c 0 ≡ digitOr c) → (c : ℕ) → c < i + 1 → getD (set table i (digitOr i)) c 0 ≡ digitOr c
+shows-next table i h shown c k = ⊎-elim same before (eq-or-lt-of-le {n = c} {m = i} (omega arith))
+  where
+    same : c ≡ i → getD (set table i (digitOr i)) c 0 ≡ digitOr c
+    same e = rw e (getD-set-same table i (digitOr i) 0 h)
+
+    before : c < i → getD (set table i (digitOr i)) c 0 ≡ digitOr c
+    before l = getD-set-other table i c (digitOr i) 0 (ne-of-lt l) ∙ shown c l
 
 -- One more digit behind others.
 pub number-snoc : (n : ℕ) (cs : List ℕ) (c : ℕ) → numberFrom n (cs ++ (c ∷ [])) ≡ numberFrom n cs * 16 + valueOf c

@@ -1,8 +1,10 @@
 -- Numbers as text, in ASCII.
+use mathlib.Core.Path.{_≡_}
 use mathlib.Core.Bool.{Bool, cond, _&&_, _||_}
 use mathlib.Core.List.{List, [], _∷_, _++_}
-use Prim.Native.Nat.{ℕ, zero, suc, _+_, _-_, _*_, _/_, _%_}
+use Prim.Native.Nat.{ℕ, zero, suc, _+_, _-_, _*_, _/_, _%_, _<_}
 use lib.Dec.{leb, ltb}
+use lib.ListN.{length, getD}
 use lib.Seq.{sets}
 
 -- Lower-case hexadecimal: the characters 0 to 9 and a to f.
@@ -15,6 +17,11 @@ valueOf c = cond (leb c 57) (c - 48) (c - 87)
 -- A digit's value, and 255 for any other character.
 unfoldable pub digitOr : ℕ → ℕ
 digitOr c = cond (isDigit c) (valueOf c) 255
+
+-- A list that shows the value of every character at its number.
+pub record DigitTable (table : List ℕ) : Type 0 where
+  pub long : length table ≡ 256
+  pub shows : (c : ℕ) → c < 256 → getD table c 0 ≡ digitOr c
 
 abbrev pub glyph : ℕ → ℕ
 glyph d = cond (ltb d 10) (48 + d) (87 + d)

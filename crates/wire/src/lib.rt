@@ -4,11 +4,11 @@ ghost use mathlib.Core.Bool.{true};
 ghost use Prim.Native.Nat.{_+_, _*_, _^_, _≤_, _<_};
 ghost use lib.ListN.{length, take, drop, replicate};
 ghost use Rattle.lists.specs.Every.{every};
-ghost use Rattle.wire.specs.Digits.{isDigit, numberOf, digitOr, glyph, digits, written};
+ghost use Rattle.wire.specs.Digits.{isDigit, numberOf, digitOr, DigitTable, glyph, digits, written};
 ghost use Rattle.calendar.specs.Conversions.{toDate};
 ghost use Rattle.wire.specs.Answers.{twosComplement, volumesBytes, answerHead, answerAmounts, answerLine, longestAnswer};
 ghost use Rattle.wire.specs.Notices.{kindNumber, dateDigits, noticeLine, noticeLength};
-ghost use Rattle.wire.specs.Frames.{fuelAt, frameOf, parsed};
+ghost use Rattle.wire.specs.Frames.{frameOf, parsed};
 use account::Answer;
 use account::Call;
 use calendar::Day;
@@ -43,12 +43,26 @@ fn digit_or(character: u8) -> u8
     255
 }
 
-fn all_digits(line: &[u8]) -> bool
+// The value of every character, by its number.
+pub fn digit_table() -> [u8; 256]
+    ensures { λ r. ⌜ DigitTable r ⌝ }
+{
+    let mut table = [0u8; 256];
+    let mut i: usize = 0;
+    while i < 256 {
+        table[i] = digit_or(i as u8);
+        i += 1;
+    }
+    table
+}
+
+fn all_digits(line: &[u8], table: &[u8]) -> bool
+    requires { ⌜ DigitTable (now table) ⌝ }
     ensures { λ r. ⌜ r ≡ every isDigit (now (line .entry)) ⌝ }
 {
     let mut i: usize = 0;
     while i < line.len() {
-        if digit_or(line[i]) > 15 {
+        if table[line[i] as usize] > 15 {
             return false;
         }
         i += 1;
@@ -57,65 +71,69 @@ fn all_digits(line: &[u8]) -> bool
 }
 
 // The number that so many digits show, from a place on.
-fn number(line: &[u8], from: usize, width: usize) -> u32
+fn number(line: &[u8], table: &[u8], from: usize, width: usize) -> u32
     requires { ⌜ from + width ≤ length (now line) ⌝ }
     requires { ⌜ width ≤ 8 ⌝ }
     requires { ⌜ every isDigit (now line) ≡ true ⌝ }
+    requires { ⌜ DigitTable (now table) ⌝ }
     ensures { λ r. ⌜ r ≡ numberOf (take width (drop from (now (line .entry)))) ⌝ }
     ensures { λ r. ⌜ r < 16 ^ width ⌝ }
 {
     let mut n: u32 = 0;
     let mut i: usize = 0;
     while i < width {
-        n = n * 16 + digit_or(line[from + i]) as u32;
+        n = n * 16 + table[line[from + i] as usize] as u32;
         i += 1;
     }
     n
 }
 
 // A line to the call that it is.
-pub fn decode(line: &[u8]) -> Parsed
+pub fn decode(line: &[u8], table: &[u8]) -> Parsed
+    requires { ⌜ DigitTable (now table) ⌝ }
     ensures { λ r. ⌜ r ≡ parsed (now (line .entry)) ⌝ }
 {
     if line.len() > 30 {
         return Parsed::NotAFrame;
     }
-    if !all_digits(line) {
+    if !all_digits(line, table) {
         return Parsed::NotAFrame;
     }
     match line.len() {
-        30 => closing_frame(line),
-        22 => estimate_frame(line),
-        16 => dial_frame(line),
-        24 => exchange_frame(line),
-        14 => payment_frame(line),
-        6 => stopped_frame(line),
+        30 => closing_frame(line, table),
+        22 => estimate_frame(line, table),
+        16 => dial_frame(line, table),
+        24 => exchange_frame(line, table),
+        14 => payment_frame(line, table),
+        6 => stopped_frame(line, table),
         _ => Parsed::NotAFrame,
     }
 }
 
 // The LNG price and the propane price.
-fn fuel_at(line: &[u8], from: usize) -> Fuel
+fn fuel_at(line: &[u8], table: &[u8], from: usize) -> Fuel
     requires { ⌜ from + 16 ≤ length (now line) ⌝ }
     requires { ⌜ every isDigit (now line) ≡ true ⌝ }
+    requires { ⌜ DigitTable (now table) ⌝ }
     ensures { λ r. ⌜ r ≡ record { lng = numberOf (take 8 (drop from (now (line .entry)))); propane = numberOf (take 8 (drop (from + 8) (now (line .entry)))) } ⌝ }
 {
     Fuel {
-        lng: number(line, from, 8),
-        propane: number(line, from + 8, 8),
+        lng: number(line, table, from, 8),
+        propane: number(line, table, from + 8, 8),
     }
 }
 
 // 02, 06 and 08
-fn closing_frame(line: &[u8]) -> Parsed
+fn closing_frame(line: &[u8], table: &[u8]) -> Parsed
     requires { ⌜ length (now line) ≡ 30 ⌝ }
     requires { ⌜ every isDigit (now line) ≡ true ⌝ }
+    requires { ⌜ DigitTable (now table) ⌝ }
     ensures { λ r. ⌜ r ≡ frameOf (now (line .entry)) ⌝ }
 {
-    let kind = number(line, 0, 2);
-    let day = number(line, 2, 4) as u16;
-    let reading = number(line, 6, 8);
-    let fuel = fuel_at(line, 14);
+    let kind = number(line, table, 0, 2);
+    let day = number(line, table, 2, 4) as u16;
+    let reading = number(line, table, 6, 8);
+    let fuel = fuel_at(line, table, 14);
     if kind == 2 {
         return Parsed::Frame(Call::Reading { day, reading, fuel });
     }
@@ -129,14 +147,15 @@ fn closing_frame(line: &[u8]) -> Parsed
 }
 
 // 03 and 04
-fn estimate_frame(line: &[u8]) -> Parsed
+fn estimate_frame(line: &[u8], table: &[u8]) -> Parsed
     requires { ⌜ length (now line) ≡ 22 ⌝ }
     requires { ⌜ every isDigit (now line) ≡ true ⌝ }
+    requires { ⌜ DigitTable (now table) ⌝ }
     ensures { λ r. ⌜ r ≡ frameOf (now (line .entry)) ⌝ }
 {
-    let kind = number(line, 0, 2);
-    let day = number(line, 2, 4) as u16;
-    let fuel = fuel_at(line, 6);
+    let kind = number(line, table, 0, 2);
+    let day = number(line, table, 2, 4) as u16;
+    let fuel = fuel_at(line, table, 6);
     if kind == 3 {
         return Parsed::Frame(Call::Missed { day, fuel });
     }
@@ -147,15 +166,16 @@ fn estimate_frame(line: &[u8]) -> Parsed
 }
 
 // 01 and 07
-fn dial_frame(line: &[u8]) -> Parsed
+fn dial_frame(line: &[u8], table: &[u8]) -> Parsed
     requires { ⌜ length (now line) ≡ 16 ⌝ }
     requires { ⌜ every isDigit (now line) ≡ true ⌝ }
+    requires { ⌜ DigitTable (now table) ⌝ }
     ensures { λ r. ⌜ r ≡ frameOf (now (line .entry)) ⌝ }
 {
-    let kind = number(line, 0, 2);
-    let day = number(line, 2, 4) as u16;
-    let reading = number(line, 6, 8);
-    let digits = number(line, 14, 2) as u8;
+    let kind = number(line, table, 0, 2);
+    let day = number(line, table, 2, 4) as u16;
+    let reading = number(line, table, 6, 8);
+    let digits = number(line, table, 14, 2) as u8;
     if kind == 1 {
         return Parsed::Frame(Call::Opening {
             day,
@@ -174,16 +194,17 @@ fn dial_frame(line: &[u8]) -> Parsed
 }
 
 // 05
-fn exchange_frame(line: &[u8]) -> Parsed
+fn exchange_frame(line: &[u8], table: &[u8]) -> Parsed
     requires { ⌜ length (now line) ≡ 24 ⌝ }
     requires { ⌜ every isDigit (now line) ≡ true ⌝ }
+    requires { ⌜ DigitTable (now table) ⌝ }
     ensures { λ r. ⌜ r ≡ frameOf (now (line .entry)) ⌝ }
 {
-    let kind = number(line, 0, 2);
-    let day = number(line, 2, 4) as u16;
-    let old = number(line, 6, 8);
-    let new = number(line, 14, 8);
-    let digits = number(line, 22, 2) as u8;
+    let kind = number(line, table, 0, 2);
+    let day = number(line, table, 2, 4) as u16;
+    let old = number(line, table, 6, 8);
+    let new = number(line, table, 14, 8);
+    let digits = number(line, table, 22, 2) as u8;
     if kind == 5 {
         return Parsed::Frame(Call::Exchange {
             day,
@@ -196,14 +217,15 @@ fn exchange_frame(line: &[u8]) -> Parsed
 }
 
 // 09
-fn payment_frame(line: &[u8]) -> Parsed
+fn payment_frame(line: &[u8], table: &[u8]) -> Parsed
     requires { ⌜ length (now line) ≡ 14 ⌝ }
     requires { ⌜ every isDigit (now line) ≡ true ⌝ }
+    requires { ⌜ DigitTable (now table) ⌝ }
     ensures { λ r. ⌜ r ≡ frameOf (now (line .entry)) ⌝ }
 {
-    let kind = number(line, 0, 2);
-    let day = number(line, 2, 4) as u16;
-    let yen = number(line, 6, 8);
+    let kind = number(line, table, 0, 2);
+    let day = number(line, table, 2, 4) as u16;
+    let yen = number(line, table, 6, 8);
     if kind == 9 {
         return Parsed::Frame(Call::Payment { day, yen });
     }
@@ -211,13 +233,14 @@ fn payment_frame(line: &[u8]) -> Parsed
 }
 
 // 0a
-fn stopped_frame(line: &[u8]) -> Parsed
+fn stopped_frame(line: &[u8], table: &[u8]) -> Parsed
     requires { ⌜ length (now line) ≡ 6 ⌝ }
     requires { ⌜ every isDigit (now line) ≡ true ⌝ }
+    requires { ⌜ DigitTable (now table) ⌝ }
     ensures { λ r. ⌜ r ≡ frameOf (now (line .entry)) ⌝ }
 {
-    let kind = number(line, 0, 2);
-    let day = number(line, 2, 4) as u16;
+    let kind = number(line, table, 0, 2);
+    let day = number(line, table, 2, 4) as u16;
     if kind == 10 {
         return Parsed::Frame(Call::StoppedCancellation { day });
     }

@@ -23,16 +23,16 @@ fuel-at-requires : tie.Need-fuel-at-requires
 fuel-at-requires c κs = search needs
 
 returns : tie.Need-returns
-returns c = (λ i. Frame (Reading (c .before .before .before .number2 .ensures .0 i) (c .before .before .number3 .ensures .0 i) (c .before .fuel-at .ensures i))) ∙ sym (frame-at (c .before .before .before .before .before .before .args .line .now) 30 2 (c .before .before .before .before .before .before .pre .0) (sym (c .before .before .before .before .number .ensures .0) ∙ c .if1 .taken))
+returns c = (λ i. Frame (Reading (c .before .before .before .number2 .ensures .0 i) (c .before .before .number3 .ensures .0 i) (c .before .fuel-at .ensures i))) ∙ sym (frame-at (c .before .before .before .before .before .before .before .args .line .now) 30 2 (c .before .before .before .before .before .before .before .pre .0) (sym (c .before .before .before .before .number .ensures .0) ∙ c .if1 .taken))
 
 returns-2 : tie.Need-returns-2
-returns-2 c = (λ i. Frame (Disconnection (c .before .before .before .before .number2 .ensures .0 i) (c .before .before .before .number3 .ensures .0 i) (c .before .before .fuel-at .ensures i))) ∙ sym (frame-at (c .before .before .before .before .before .before .before .args .line .now) 30 6 (c .before .before .before .before .before .before .before .pre .0) (sym (c .before .before .before .before .before .number .ensures .0) ∙ c .if2 .taken))
+returns-2 c = (λ i. Frame (Disconnection (c .before .before .before .before .number2 .ensures .0 i) (c .before .before .before .number3 .ensures .0 i) (c .before .before .fuel-at .ensures i))) ∙ sym (frame-at (c .before .before .before .before .before .before .before .before .args .line .now) 30 6 (c .before .before .before .before .before .before .before .before .pre .0) (sym (c .before .before .before .before .before .number .ensures .0) ∙ c .if2 .taken))
 
 returns-3 : tie.Need-returns-3
-returns-3 c = (λ i. Frame (Cancellation (c .before .before .before .before .before .number2 .ensures .0 i) (c .before .before .before .before .number3 .ensures .0 i) (c .before .before .before .fuel-at .ensures i))) ∙ sym (frame-at (c .before .before .before .before .before .before .before .before .args .line .now) 30 8 (c .before .before .before .before .before .before .before .before .pre .0) (sym (c .before .before .before .before .before .before .number .ensures .0) ∙ c .if3 .taken))
+returns-3 c = (λ i. Frame (Cancellation (c .before .before .before .before .before .number2 .ensures .0 i) (c .before .before .before .before .number3 .ensures .0 i) (c .before .before .before .fuel-at .ensures i))) ∙ sym (frame-at (c .before .before .before .before .before .before .before .before .before .args .line .now) 30 8 (c .before .before .before .before .before .before .before .before .before .pre .0) (sym (c .before .before .before .before .before .before .number .ensures .0) ∙ c .if3 .taken))
 
 returns-4 : tie.Need-returns-4
-returns-4 c = sym (frame-at (c .before .before .before .before .before .before .before .before .args .line .now) 30 (c .before .before .before .before .before .before .number .result) (c .before .before .before .before .before .before .before .before .pre .0) (sym (c .before .before .before .before .before .before .number .ensures .0)) ∙ rw (ne-eqb (c .before .before .before .before .before .before .number .result) 2 (c .before .before .if1 .left), ne-eqb (c .before .before .before .before .before .before .number .result) 6 (c .before .if2 .left), ne-eqb (c .before .before .before .before .before .before .number .result) 8 (c .if3 .left)) refl)
+returns-4 c = sym (frame-at (c .before .before .before .before .before .before .before .before .before .args .line .now) 30 (c .before .before .before .before .before .before .number .result) (c .before .before .before .before .before .before .before .before .before .pre .0) (sym (c .before .before .before .before .before .before .number .ensures .0)) ∙ rw (ne-eqb (c .before .before .before .before .before .before .number .result) 2 (c .before .before .if1 .left), ne-eqb (c .before .before .before .before .before .before .number .result) 6 (c .before .if2 .left), ne-eqb (c .before .before .before .before .before .before .number .result) 8 (c .if3 .left)) refl)
 
 pub closing-frame-spec : {M : Type 1} → statement M
 closing-frame-spec =

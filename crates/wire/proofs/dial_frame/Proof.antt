@@ -26,13 +26,13 @@ cast-digits : tie.Need-cast-digits
 cast-digits c = search needs
 
 returns : tie.Need-returns
-returns c = (λ i. Frame (Opening (c .before .before .before .number2 .ensures .0 i) (c .before .before .number3 .ensures .0 i) (c .before .number4 .ensures .0 i))) ∙ sym (frame-at (c .before .before .before .before .before .before .args .line .now) 16 1 (c .before .before .before .before .before .before .pre .0) (sym (c .before .before .before .before .number .ensures .0) ∙ c .if1 .taken))
+returns c = (λ i. Frame (Opening (c .before .before .before .number2 .ensures .0 i) (c .before .before .number3 .ensures .0 i) (c .before .number4 .ensures .0 i))) ∙ sym (frame-at (c .before .before .before .before .before .before .before .args .line .now) 16 1 (c .before .before .before .before .before .before .before .pre .0) (sym (c .before .before .before .before .number .ensures .0) ∙ c .if1 .taken))
 
 returns-2 : tie.Need-returns-2
-returns-2 c = (λ i. Frame (Reconnection (c .before .before .before .before .number2 .ensures .0 i) (c .before .before .before .number3 .ensures .0 i) (c .before .before .number4 .ensures .0 i))) ∙ sym (frame-at (c .before .before .before .before .before .before .before .args .line .now) 16 7 (c .before .before .before .before .before .before .before .pre .0) (sym (c .before .before .before .before .before .number .ensures .0) ∙ c .if2 .taken))
+returns-2 c = (λ i. Frame (Reconnection (c .before .before .before .before .number2 .ensures .0 i) (c .before .before .before .number3 .ensures .0 i) (c .before .before .number4 .ensures .0 i))) ∙ sym (frame-at (c .before .before .before .before .before .before .before .before .args .line .now) 16 7 (c .before .before .before .before .before .before .before .before .pre .0) (sym (c .before .before .before .before .before .number .ensures .0) ∙ c .if2 .taken))
 
 returns-3 : tie.Need-returns-3
-returns-3 c = sym (frame-at (c .before .before .before .before .before .before .before .args .line .now) 16 (c .before .before .before .before .before .number .result) (c .before .before .before .before .before .before .before .pre .0) (sym (c .before .before .before .before .before .number .ensures .0)) ∙ rw (ne-eqb (c .before .before .before .before .before .number .result) 1 (c .before .if1 .left), ne-eqb (c .before .before .before .before .before .number .result) 7 (c .if2 .left)) refl)
+returns-3 c = sym (frame-at (c .before .before .before .before .before .before .before .before .args .line .now) 16 (c .before .before .before .before .before .number .result) (c .before .before .before .before .before .before .before .before .pre .0) (sym (c .before .before .before .before .before .number .ensures .0)) ∙ rw (ne-eqb (c .before .before .before .before .before .number .result) 1 (c .before .if1 .left), ne-eqb (c .before .before .before .before .before .number .result) 7 (c .if2 .left)) refl)
 
 pub dial-frame-spec : {M : Type 1} → statement M
 dial-frame-spec =

@@ -29,10 +29,10 @@ cast-digits : tie.Need-cast-digits
 cast-digits c = search needs
 
 returns : tie.Need-returns
-returns c = (λ i. Frame (Exchange (c .before .before .before .before .number2 .ensures .0 i) (c .before .before .before .number3 .ensures .0 i) (c .before .before .number4 .ensures .0 i) (c .before .number5 .ensures .0 i))) ∙ sym (frame-at (c .before .before .before .before .before .before .before .args .line .now) 24 5 (c .before .before .before .before .before .before .before .pre .0) (sym (c .before .before .before .before .before .number .ensures .0) ∙ c .if1 .taken))
+returns c = (λ i. Frame (Exchange (c .before .before .before .before .number2 .ensures .0 i) (c .before .before .before .number3 .ensures .0 i) (c .before .before .number4 .ensures .0 i) (c .before .number5 .ensures .0 i))) ∙ sym (frame-at (c .before .before .before .before .before .before .before .before .args .line .now) 24 5 (c .before .before .before .before .before .before .before .before .pre .0) (sym (c .before .before .before .before .before .number .ensures .0) ∙ c .if1 .taken))
 
 returns-2 : tie.Need-returns-2
-returns-2 c = sym (frame-at (c .before .before .before .before .before .before .before .args .line .now) 24 (c .before .before .before .before .before .number .result) (c .before .before .before .before .before .before .before .pre .0) (sym (c .before .before .before .before .before .number .ensures .0)) ∙ rw (ne-eqb (c .before .before .before .before .before .number .result) 5 (c .if1 .left)) refl)
+returns-2 c = sym (frame-at (c .before .before .before .before .before .before .before .before .args .line .now) 24 (c .before .before .before .before .before .number .result) (c .before .before .before .before .before .before .before .before .pre .0) (sym (c .before .before .before .before .before .number .ensures .0)) ∙ rw (ne-eqb (c .before .before .before .before .before .number .result) 5 (c .if1 .left)) refl)
 
 pub exchange-frame-spec : {M : Type 1} → statement M
 exchange-frame-spec =

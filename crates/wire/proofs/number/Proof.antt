@@ -5,29 +5,34 @@ use Rattle.lists.proofs.Every.{every-holds}
 use Rattle.wire.specs.Digits.{valueOf, isDigit, numberOf}
 use Rattle.wire.proofs.Digits.{power-within, power-next, number-suc, digit-value, value-small}
 use mathlib.Core.Bool.{true}
-use Prim.Native.Nat.{_+_, _-_, _^_, _≤_, _<_}
+use Prim.Native.Nat.{ℕ, _+_, _-_, _^_, _≤_, _<_}
 use native.Mathlib.Omega.{arith}
 use native.Mathlib.Numerals.{add-one}
-use borrow.Author.Needs.{needs}
 use Rattle.lists.specs.Every.{every}
 use Rattle.wire.proofs.number.Statement.{statement}
 use Rattle.wire.proofs.number.Tie as tie
 
 abbrev Inv-loop : tie.InvT-loop
-Inv-loop line from width n₀ i₀ n i = (i ≤ width) × (n ≡ numberOf (take i (drop from line))) × (n < 16 ^ i)
+Inv-loop line table from width n₀ i₀ n i = (i ≤ width) × (n ≡ numberOf (take i (drop from line))) × (n < 16 ^ i)
 
 abbrev μ-loop : tie.MeasureT-loop
-μ-loop line from width n₀ i₀ n i = width - i
+μ-loop line table from width n₀ i₀ n i = width - i
 
-digit : (c : tie.After-digit-or Inv-loop μ-loop) → isDigit (getD (c .before .before .before .before .before .args .line .now) (c .before .before .before .before .before .args .from + c .before .before .before .loop .i) 0) ≡ true
+abbrev character : tie.After-shared-slice-known2 Inv-loop μ-loop → ℕ
+character c = getD (c .before .before .before .before .args .line .now) (c .before .before .before .before .args .from + c .before .before .before .loop .i) 0
+
+byte : (c : tie.After-shared-slice-known2 Inv-loop μ-loop) → character c < 256
+byte c = omega (arith, c .before .shared-slice-known .given (c .before .before .before .before .args .from + c .before .before .before .loop .i))
+
+digit : (c : tie.After-shared-slice-known2 Inv-loop μ-loop) → isDigit (character c) ≡ true
 digit c =
-    every-holds isDigit (c .before .before .before .before .before .args .line .now) (length (c .before .before .before .before .before .args .line .now)) (c .before .before .before .before .before .args .from + c .before .before .before .loop .i) 0 (omega arith) (omega arith) (ap (every isDigit) (take-all (length (c .before .before .before .before .before .args .line .now)) (c .before .before .before .before .before .args .line .now) (omega arith)) ∙ c .before .before .before .before .before .pre .1 .1)
+    every-holds isDigit (c .before .before .before .before .args .line .now) (length (c .before .before .before .before .args .line .now)) (c .before .before .before .before .args .from + c .before .before .before .loop .i) 0 (omega arith) (omega arith) (ap (every isDigit) (take-all (length (c .before .before .before .before .args .line .now)) (c .before .before .before .before .args .line .now) (omega arith)) ∙ c .before .before .before .before .pre .1 .1 .0)
 
-value-is : (c : tie.After-digit-or Inv-loop μ-loop) → c .digit-or .result ≡ valueOf (getD (c .before .before .before .before .before .args .line .now) (c .before .before .before .before .before .args .from + c .before .before .before .loop .i) 0)
-value-is c = c .digit-or .ensures ∙ digit-value (getD (c .before .before .before .before .before .args .line .now) (c .before .before .before .before .before .args .from + c .before .before .before .loop .i) 0) (digit c)
+value-is : (c : tie.After-shared-slice-known2 Inv-loop μ-loop) → getD (c .before .before .before .before .args .table .now) (character c) 0 ≡ valueOf (character c)
+value-is c = c .before .before .before .before .pre .1 .1 .1 .shows (character c) (byte c) ∙ digit-value (character c) (digit c)
 
-small : (c : tie.After-digit-or Inv-loop μ-loop) → c .digit-or .result ≤ 15
-small c = rw (value-is c) (value-small (getD (c .before .before .before .before .before .args .line .now) (c .before .before .before .before .before .args .from + c .before .before .before .loop .i) 0) (digit c))
+small : (c : tie.After-shared-slice-known2 Inv-loop μ-loop) → getD (c .before .before .before .before .args .table .now) (character c) 0 ≤ 15
+small c = rw (value-is c) (value-small (character c) (digit c))
 
 loop-holds : tie.Need-loop-holds Inv-loop μ-loop
 loop-holds c = (omega arith, refl, omega arith)
@@ -35,20 +40,23 @@ loop-holds c = (omega arith, refl, omega arith)
 mul-n : tie.Need-mul-n Inv-loop μ-loop
 mul-n c = omega (arith, power-within (c .before .loop .n) (c .before .loop .i) (c .before .loop .inv .2) (omega arith))
 
-add-digit-or : tie.Need-add-digit-or Inv-loop μ-loop
-add-digit-or c = omega arith
+add-n : tie.Need-add-n Inv-loop μ-loop
+add-n c = omega arith
 
-shared-slice-read-digit-or : tie.Need-shared-slice-read-digit-or Inv-loop μ-loop
-shared-slice-read-digit-or c = omega arith
-
-digit-or-requires : tie.Need-digit-or-requires Inv-loop μ-loop
-digit-or-requires c κs = search needs
+shared-slice-read-n : tie.Need-shared-slice-read-n Inv-loop μ-loop
+shared-slice-read-n c = omega arith
 
 cast-n : tie.Need-cast-n Inv-loop μ-loop
-cast-n c = search needs
+cast-n c = omega (arith, c .shared-slice-known .given (c .before .before .before .args .from + c .before .before .loop .i))
 
-add-n : tie.Need-add-n Inv-loop μ-loop
-add-n c = omega (arith, small c, power-within (c .before .before .before .loop .n) (c .before .before .before .loop .i) (c .before .before .before .loop .inv .2) (omega arith))
+shared-slice-read-n-2 : tie.Need-shared-slice-read-n-2 Inv-loop μ-loop
+shared-slice-read-n-2 c = omega (arith, byte c)
+
+cast-n-2 : tie.Need-cast-n-2 Inv-loop μ-loop
+cast-n-2 c = omega (arith, small c)
+
+add-n-2 : tie.Need-add-n-2 Inv-loop μ-loop
+add-n-2 c = omega (arith, small c, power-within (c .before .before .before .loop .n) (c .before .before .before .loop .i) (c .before .before .before .loop .inv .2) (omega arith))
 
 add-i : tie.Need-add-i Inv-loop μ-loop
 add-i c = omega arith
@@ -57,11 +65,11 @@ loop-less : tie.Need-loop-less Inv-loop μ-loop
 loop-less c = omega arith
 
 loop-again : tie.Need-loop-again Inv-loop μ-loop
-loop-again c = let within : c .before .before .before .loop .i < length (drop (c .before .before .before .before .before .args .from) (c .before .before .before .before .before .args .line .now)) = rw (length-drop (c .before .before .before .before .before .args .from) (c .before .before .before .before .before .args .line .now)) (omega arith) in
-    (omega arith, rw (add-one (c .before .before .before .loop .i), number-suc (drop (c .before .before .before .before .before .args .from) (c .before .before .before .before .before .args .line .now)) (c .before .before .before .loop .i) within, getD-drop (c .before .before .before .before .before .args .from) (c .before .before .before .before .before .args .line .now) (c .before .before .before .loop .i) 0, ← value-is c, ← c .before .before .before .loop .inv .1) refl, rw (add-one (c .before .before .before .loop .i)) (power-next (c .before .before .before .loop .n) (c .digit-or .result) (c .before .before .before .loop .i) (c .before .before .before .loop .inv .2) (small c)))
+loop-again c = let within : c .before .before .before .loop .i < length (drop (c .before .before .before .before .args .from) (c .before .before .before .before .args .line .now)) = rw (length-drop (c .before .before .before .before .args .from) (c .before .before .before .before .args .line .now)) (omega arith) in
+    (omega arith, rw (add-one (c .before .before .before .loop .i), number-suc (drop (c .before .before .before .before .args .from) (c .before .before .before .before .args .line .now)) (c .before .before .before .loop .i) within, getD-drop (c .before .before .before .before .args .from) (c .before .before .before .before .args .line .now) (c .before .before .before .loop .i) 0, ← value-is c, ← c .before .before .before .loop .inv .1) refl, rw (add-one (c .before .before .before .loop .i)) (power-next (c .before .before .before .loop .n) (getD (c .before .before .before .before .args .table .now) (character c) 0) (c .before .before .before .loop .i) (c .before .before .before .loop .inv .2) (small c)))
 
 returns : tie.Need-returns Inv-loop μ-loop
-returns c = let done : c .before .loop .i ≡ c .before .before .before .args .width = omega arith in
+returns c = let done : c .before .loop .i ≡ c .before .before .args .width = omega arith in
     rw (← done) (c .before .loop .inv .1, c .before .loop .inv .2)
 
 pub number-spec : {M : Type 1} → statement M
@@ -72,11 +80,12 @@ number-spec =
     μ-loop
     loop-holds
     mul-n
-    add-digit-or
-    shared-slice-read-digit-or
-    digit-or-requires
-    cast-n
     add-n
+    shared-slice-read-n
+    cast-n
+    shared-slice-read-n-2
+    cast-n-2
+    add-n-2
     add-i
     loop-less
     loop-again

@@ -20,10 +20,10 @@ number-requires-3 : tie.Need-number-requires-3
 number-requires-3 c κs = search needs
 
 returns : tie.Need-returns
-returns c = (λ i. Frame (Payment (c .before .before .number2 .ensures .0 i) (c .before .number3 .ensures .0 i))) ∙ sym (frame-at (c .before .before .before .before .before .args .line .now) 14 9 (c .before .before .before .before .before .pre .0) (sym (c .before .before .before .number .ensures .0) ∙ c .if1 .taken))
+returns c = (λ i. Frame (Payment (c .before .before .number2 .ensures .0 i) (c .before .number3 .ensures .0 i))) ∙ sym (frame-at (c .before .before .before .before .before .before .args .line .now) 14 9 (c .before .before .before .before .before .before .pre .0) (sym (c .before .before .before .number .ensures .0) ∙ c .if1 .taken))
 
 returns-2 : tie.Need-returns-2
-returns-2 c = sym (frame-at (c .before .before .before .before .before .args .line .now) 14 (c .before .before .before .number .result) (c .before .before .before .before .before .pre .0) (sym (c .before .before .before .number .ensures .0)) ∙ rw (ne-eqb (c .before .before .before .number .result) 9 (c .if1 .left)) refl)
+returns-2 c = sym (frame-at (c .before .before .before .before .before .before .args .line .now) 14 (c .before .before .before .number .result) (c .before .before .before .before .before .before .pre .0) (sym (c .before .before .before .number .ensures .0)) ∙ rw (ne-eqb (c .before .before .before .number .result) 9 (c .if1 .left)) refl)
 
 pub payment-frame-spec : {M : Type 1} → statement M
 payment-frame-spec =

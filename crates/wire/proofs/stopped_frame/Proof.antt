@@ -17,10 +17,10 @@ cast-day : tie.Need-cast-day
 cast-day c = search needs
 
 returns : tie.Need-returns
-returns c = (λ i. Frame (StoppedCancellation (c .before .number2 .ensures .0 i))) ∙ sym (frame-at (c .before .before .before .before .args .line .now) 6 10 (c .before .before .before .before .pre .0) (sym (c .before .before .number .ensures .0) ∙ c .if1 .taken))
+returns c = (λ i. Frame (StoppedCancellation (c .before .number2 .ensures .0 i))) ∙ sym (frame-at (c .before .before .before .before .before .args .line .now) 6 10 (c .before .before .before .before .before .pre .0) (sym (c .before .before .number .ensures .0) ∙ c .if1 .taken))
 
 returns-2 : tie.Need-returns-2
-returns-2 c = sym (frame-at (c .before .before .before .before .args .line .now) 6 (c .before .before .number .result) (c .before .before .before .before .pre .0) (sym (c .before .before .number .ensures .0)) ∙ rw (ne-eqb (c .before .before .number .result) 10 (c .if1 .left)) refl)
+returns-2 c = sym (frame-at (c .before .before .before .before .before .args .line .now) 6 (c .before .before .number .result) (c .before .before .before .before .before .pre .0) (sym (c .before .before .number .ensures .0)) ∙ rw (ne-eqb (c .before .before .number .result) 10 (c .if1 .left)) refl)
 
 pub stopped-frame-spec : {M : Type 1} → statement M
 stopped-frame-spec =
