@@ -15,7 +15,7 @@ use Rattle.account.specs.LightCalls.{Lightly}
 use Rattle.account.specs.Outcomes.{accepted, outcome}
 use Rattle.account.specs.Refusals.{exchangeRefusal, paymentRefusal, firstRefusal, lastRefusal}
 use Rattle.account.specs.Whole.{whole}
-use Rattle.account.proofs.Facts.{LedgerFacts, whole-facts, supplied-facts, not-new-facts}
+use Rattle.account.proofs.Facts.{whole-facts, supplied-facts, not-new-facts}
 use Rattle.account.proofs.Passed.{exchange-passed, payment-passed}
 use Rattle.account.proofs.Ready.{whole-open, payment-ready, sound-open}
 use Rattle.account.proofs.Concluding.{concluded-accepted, outcome-concluded}

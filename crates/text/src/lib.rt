@@ -5,10 +5,11 @@ ghost use Prim.Native.Nat.{_+_, _*_, min, _≤_};
 ghost use lib.ListN.{length, take};
 ghost use Rattle.wire.specs.Digits.{written};
 ghost use Rattle.wire.specs.Notices.{noticeLength};
-ghost use Rattle.text.specs.Output.{lineOutcome, accountAfter, noticesOf, openNotices, bill, notice, longestInput, sizeOf, fitted, worked};
+ghost use Rattle.text.specs.Output.{parsedOutcome, accountAfter, noticesOf, openNotices, bill, notice, longestInput, sizeOf, fitted, worked};
 ghost use Rattle.account.specs.Calls.{newAccount};
 ghost use Rattle.account.specs.Outcomes.{outcome};
 ghost use Rattle.account.specs.Whole.{whole};
+ghost use Rattle.account.specs.LightCalls.{Lightly};
 ghost use Rattle.text.specs.Reached.{Reached};
 ghost use Rattle.text.specs.Lines.{linesOf};
 ghost use Rattle.text.specs.Pieces.{Sums};
@@ -16,6 +17,7 @@ ghost use Rattle.text.specs.Feeding.{fresh, feeding, finishing, fedOf};
 use account::Account;
 use account::Call;
 use account::Outcome;
+use account::light::Light;
 use ledger::Ledger;
 use wire::Parsed;
 
@@ -65,15 +67,42 @@ fn answer_call(account: Account, call: Call, known: bool) -> Outcome
     account.apply(call)
 }
 
-// A line's outcome: 40, or that of its call.
-fn answer_line(account: Account, line: &[u8], known: bool) -> Outcome
+// What a line comes to: 40, or its call's outcome.
+fn answer_line(account: Account, line: Parsed, known: bool) -> Outcome
     requires { ⌜ (known ≡ true → whole account ≡ true) ⌝ }
-    ensures { λ r. ⌜ r ≡ lineOutcome account (now (line .entry)) ⌝ }
+    ensures { λ r. ⌜ r ≡ parsedOutcome account line ⌝ }
 {
-    let parsed = wire::decode(line);
-    match parsed {
+    match line {
         Parsed::Frame(call) => answer_call(account, call, known),
         Parsed::NotAFrame => account::whole::decline(account, 40),
+    }
+}
+
+// What a line changes, where it is a light call on an account known to come from a new one.
+fn light_line(account: Account, line: Parsed, known: bool) -> Light
+    requires { ⌜ (known ≡ true → Reached account) ⌝ }
+    ensures { λ r. ⌜ (r .applies ≡ true → Lightly account (parsedOutcome account line) r) ⌝ }
+{
+    if !known {
+        return account::light::unknown();
+    }
+    match line {
+        Parsed::Frame(call) => account::light::changes(account, call),
+        Parsed::NotAFrame => account::light::unknown(),
+    }
+}
+
+fn handed_back(account: Account, length: usize, line: [u8; 31], taken: usize, written: usize) -> Fed
+    ensures { λ r. ⌜ r ≡ record { session = record { account = account; length = length; line = line }; taken = taken; written = written } ⌝ }
+{
+    Fed {
+        session: Session {
+            account,
+            length,
+            line,
+        },
+        taken,
+        written,
     }
 }
 
@@ -94,6 +123,7 @@ pub fn feed_as(session: Session, input: &[u8], out: &mut [u8], known: bool) -> F
     ensures { λ r. ⌜ (r .taken ≤ length (now (input .entry))) × (r .written ≤ length (now (out .entry))) ⌝ }
     ensures { λ r. ⌜ (known ≡ true → Reached (r .session .account)) ⌝ }
 {
+    let table = wire::digit_table();
     let mut account = session.account;
     let mut length = session.length;
     let mut line = session.line;
@@ -103,22 +133,21 @@ pub fn feed_as(session: Session, input: &[u8], out: &mut [u8], known: bool) -> F
         let character = input[taken];
         if character == 10 {
             if out.len() - written < 117 {
-                return Fed {
-                    session: Session {
-                        account,
-                        length,
-                        line,
-                    },
-                    taken,
-                    written,
-                };
+                return handed_back(account, length, line, taken, written);
             }
             let end = shown_length(length);
-            let outcome = answer_line(account, &line[..end], known);
-            written = wire::put_answer(outcome.answer, out, written);
-            account = outcome.account;
+            let parsed = wire::decode(&line[..end], &table);
+            let light = light_line(account, parsed, known);
             length = 0;
             taken += 1;
+            if light.applies {
+                account = account::light::apply(account, light);
+                written = wire::put_answer(account::light::answer(account), out, written);
+                continue;
+            }
+            let outcome = answer_line(account, parsed, known);
+            written = wire::put_answer(outcome.answer, out, written);
+            account = outcome.account;
             continue;
         }
         taken += 1;
@@ -128,15 +157,7 @@ pub fn feed_as(session: Session, input: &[u8], out: &mut [u8], known: bool) -> F
             continue;
         }
     }
-    Fed {
-        session: Session {
-            account,
-            length,
-            line,
-        },
-        taken,
-        written,
-    }
+    handed_back(account, length, line, taken, written)
 }
 
 // The characters kept of a line.

@@ -4,14 +4,11 @@ use borrow.Author.Needs.{needs}
 use Rattle.text.proofs.answer_line.Statement.{statement}
 use Rattle.text.proofs.answer_line.Tie as tie
 
-decode-requires : tie.Need-decode-requires
-decode-requires c κs = search needs
-
-enum-known-parsed : tie.Need-enum-known-parsed
-enum-known-parsed c = search needs
+enum-known-line : tie.Need-enum-known-line
+enum-known-line c = search needs
 
 answer-call-requires : tie.Need-answer-call-requires
-answer-call-requires c κs = c .before .before .before .before .before .pre
+answer-call-requires c κs = search needs
 
 enum-told : tie.Need-enum-told
 enum-told c = search needs
@@ -20,19 +17,12 @@ decline-requires : tie.Need-decline-requires
 decline-requires c κs = search needs
 
 returns : tie.Need-returns
-returns c = c .answer-call .ensures ∙ sym (ap (parsedOutcome (c .before .before .before .before .before .before .args .account)) (sym (c .before .before .before .before .decode .ensures) ∙ c .before .before .parsed .given .1))
+returns c = c .answer-call .ensures ∙ sym (ap (parsedOutcome (c .before .before .before .before .args .account)) (c .before .before .line .given .1))
 
 returns-2 : tie.Need-returns-2
-returns-2 c = c .decline .ensures ∙ sym (ap (parsedOutcome (c .before .before .before .before .before .args .account)) (sym (c .before .before .before .decode .ensures) ∙ c .before .enum-told .given .1))
+returns-2 c = c .decline .ensures ∙ sym (ap (parsedOutcome (c .before .before .before .args .account)) (c .before .enum-told .given .1))
 
 pub answer-line-spec : {M : Type 1} → statement M
 answer-line-spec =
     tie.close
-    (tie.spec
-    decode-requires
-    enum-known-parsed
-    answer-call-requires
-    enum-told
-    decline-requires
-    returns
-    returns-2)
+    (tie.spec enum-known-line answer-call-requires enum-told decline-requires returns returns-2)

@@ -1,15 +1,20 @@
 use mathlib.Core.Path.{_≡_, refl, sym, ap, _∙_}
-use Prim.Native.Nat.{_+_, _-_, min, _≤_}
-use native.Mathlib.Omega.{arith}
-use native.Mathlib.Nat.{sub-zero}
 use mathlib.Core.Bool.{true}
+use mathlib.Core.List.{List}
+use Prim.Native.Nat.{ℕ, _+_, _-_, min, _≤_, _<_}
+use native.Mathlib.Nat.{sub-zero}
+use native.Mathlib.Omega.{arith}
 use lib.ListN.{length, getD, set, take, drop, length-set}
-use mir.Syntax.{w64}
-use mir.Val.{Fits}
 use lib.Seq.{length-take-le}
-use Rattle.text.specs.Output.{lineOutcome}
 use borrow.Author.Needs.{needs}
-use Rattle.text.specs.Feeding.{feeding}
+use Rattle.account.specs.declared.Account.{Account}
+use Rattle.account.specs.declared.Outcome.{Outcome}
+use Rattle.account.specs.Calls.{quiet}
+use Rattle.account.specs.Outcomes.{accepted}
+use Rattle.wire.specs.Frames.{parsed}
+use Rattle.text.specs.declared.Session.{Session}
+use Rattle.text.specs.Output.{parsedOutcome}
+use Rattle.text.specs.Feeding.{lineEnds, Feeding, feeding}
 use Rattle.text.specs.Reached.{Reached}
 use Rattle.text.proofs.Reached.{reached-whole, reached-line}
 use Rattle.text.proofs.Feeding.{session, Ahead, ahead-start, ahead-done, ahead-text, take-min, kept-within, kept-full, line-ended, line-waits, byte-kept, input-ended}
@@ -17,26 +22,67 @@ use Rattle.text.proofs.feed_as.Statement.{statement}
 use Rattle.text.proofs.feed_as.Tie as tie
 
 abbrev Inv-loop : tie.InvT-loop
-Inv-loop input out₀ known account₀ length₀ line₀ taken₀ written₀ out account kept-length line taken written =
+Inv-loop input out₀ known table account₀ length₀ line₀ taken₀ written₀ out account kept-length line taken written =
     (taken ≤ length input) × (written ≤ length out) × (length out ≡ length out₀) × (length line ≡ 31) ×
     Ahead (feeding (length out₀) (session account₀ length₀ line₀) input) out₀ taken written (feeding (length out₀ - written) (session account kept-length line) (drop taken input)) out × (known ≡ true → Reached account)
 
 abbrev μ-loop : tie.MeasureT-loop
-μ-loop input out₀ known account₀ length₀ line₀ taken₀ written₀ out account kept-length line taken written = length input - taken
+μ-loop input out₀ known table account₀ length₀ line₀ taken₀ written₀ out account kept-length line taken written = length input - taken
 
-taken-fits : (c : tie.Then1 Inv-loop μ-loop) → Fits w64 (c .before .before .before .loop .taken + 1)
-taken-fits c = omega arith
+-- Where the loop stands: the text and the input at the start, what the whole input makes, and what is kept.
+abbrev At : Type 0
+At = tie.At-loop Inv-loop μ-loop
 
--- the outcome that a line's end asks for
-line-is : (c : tie.After-answer-line Inv-loop μ-loop) → c .answer-line .result ≡ lineOutcome (c .before .before .before .before .before .before .before .loop .account) (take (c .before .before .before .before .before .before .before .loop .length) (c .before .before .before .before .before .before .before .loop .line))
-line-is c = let long : length (c .before .before .before .before .before .before .before .loop .line) ≡ 31 = c .before .before .before .before .before .before .before .loop .inv .3 in
-    c .answer-line .ensures ∙ ap (lineOutcome (c .before .before .before .before .before .before .before .loop .account)) (ap (λ n. take n (c .before .before .before .before .before .before .before .loop .line)) (c .before .before .shown-length .ensures) ∙ take-min (c .before .before .before .before .before .before .before .loop .length) 31 (c .before .before .before .before .before .before .before .loop .line) long)
+abbrev text : At → List ℕ
+text l = l .before .before .before .before .before .before .args .out .now
 
-put-length : (c : tie.After-put-answer Inv-loop μ-loop) → length (c .put-answer .last .1 .0) ≡ length (c .before .before .before .before .before .before .before .before .before .loop .out)
+abbrev bytes : At → List ℕ
+bytes l = l .before .before .before .before .before .before .args .input .now
+
+abbrev made : At → Feeding
+made l = feeding (length (text l)) (l .before .before .before .before .before .before .args .session) (bytes l)
+
+abbrev stands : At → Session
+stands l = session (l .loop .account) (l .loop .length) (l .loop .line)
+
+abbrev next : At → ℕ
+next l = getD (bytes l) (l .loop .taken) 0
+
+more : (c : tie.In-loop Inv-loop μ-loop) → c .before .loop .taken < length (bytes (c .before))
+more c = omega arith
+
+-- what the line that ends is read as
+read-is : (c : tie.After-decode Inv-loop μ-loop) → c .decode .result ≡ parsed (take (c .before .before .before .before .before .before .before .before .loop .length) (c .before .before .before .before .before .before .before .before .loop .line))
+read-is c =
+    let l = c .before .before .before .before .before .before .before .before in
+    c .decode .ensures ∙ ap parsed (ap (λ n. take n (l .loop .line)) (c .before .before .before .shown-length .ensures) ∙ take-min (l .loop .length) 31 (l .loop .line) (l .loop .inv .3))
+
+-- what a light call comes to
+light-is : (c : tie.After-answer Inv-loop μ-loop) → record { account = c .before .apply .result; answer = c .answer .result } ≡ lineEnds (stands (c .before .before .before .before .before .before .before .before .before .before .before .before))
+light-is c =
+    let a = c .before .before .before .before .before .before .before .before .before .before .before .before .loop .account in
+    let lightly = c .before .before .before .light-line .ensures (c .before .before .if3 .taken) in
+    (λ i. record { account = c .before .apply .result; answer = c .answer .ensures i }) ∙
+    ap (λ (x : Account). accepted (quiet x)) (c .before .apply .ensures) ∙
+    sym (lightly .outcome-is) ∙
+    ap (parsedOutcome a) (read-is (c .before .before .before .before))
+
+-- what any other line comes to
+line-is : (c : tie.After-answer-line Inv-loop μ-loop) → c .answer-line .result ≡ lineEnds (stands (c .before .before .before .before .before .before .before .before .before .before .before))
+line-is c = c .answer-line .ensures ∙ ap (parsedOutcome (c .before .before .before .before .before .before .before .before .before .before .before .loop .account)) (read-is (c .before .before .before))
+
+put-length : (c : tie.After-put-answer Inv-loop μ-loop) → length (c .put-answer .last .1 .0) ≡ length (c .before .before .before .before .before .before .before .before .before .before .before .before .before .before .loop .out)
 put-length c = search needs
 
+put-length-2 : (c : tie.After-put-answer2 Inv-loop μ-loop) → length (c .put-answer2 .last .1 .0) ≡ length (c .before .before .before .before .before .before .before .before .before .before .before .before .before .loop .out)
+put-length-2 c = search needs
+
+digit-table-requires : tie.Need-digit-table-requires Inv-loop μ-loop
+digit-table-requires c κs = tt
+
 loop-holds : tie.Need-loop-holds Inv-loop μ-loop
-loop-holds c = (omega arith, omega arith, refl, search needs, rw (sub-zero (length (c .before .before .before .before .args .out .now))) (ahead-start (feeding (length (c .before .before .before .before .args .out .now)) (c .before .before .before .before .args .session) (c .before .before .before .before .args .input .now)) (c .before .before .before .before .args .out .now)), c .before .before .before .before .pre)
+loop-holds c = let size = length (c .before .before .before .before .before .args .out .now) in
+    (omega arith, omega arith, refl, search needs, rw (sub-zero size) (ahead-start (feeding size (c .before .before .before .before .before .args .session) (c .before .before .before .before .before .args .input .now)) (c .before .before .before .before .before .args .out .now)), c .before .before .before .before .before .pre)
 
 shared-slice-read-character : tie.Need-shared-slice-read-character Inv-loop μ-loop
 shared-slice-read-character c = omega arith
@@ -44,11 +90,16 @@ shared-slice-read-character c = omega arith
 sub-if2 : tie.Need-sub-if2 Inv-loop μ-loop
 sub-if2 c = omega arith
 
+handed-back-requires : tie.Need-handed-back-requires Inv-loop μ-loop
+handed-back-requires c κs = tt
+
 same-length : tie.Need-same-length Inv-loop μ-loop
-same-length c = c .before .before .before .before .loop .inv .2
+same-length c = c .before .before .before .before .before .loop .inv .2
 
 returns : tie.Need-returns Inv-loop μ-loop
-returns c = (ahead-done (feeding (length (c .before .before .before .before .before .before .before .before .before .args .out .now)) (c .before .before .before .before .before .before .before .before .before .args .session) (c .before .before .before .before .before .before .before .before .before .args .input .now)) (c .before .before .before .before .before .before .before .before .before .args .out .now) (c .before .before .before .before .loop .taken) (c .before .before .before .before .loop .written) (session (c .before .before .before .before .loop .account) (c .before .before .before .before .loop .length) (c .before .before .before .before .loop .line)) (c .before .before .before .before .loop .out) (line-waits (feeding (length (c .before .before .before .before .before .before .before .before .before .args .out .now)) (c .before .before .before .before .before .before .before .before .before .args .session) (c .before .before .before .before .before .before .before .before .before .args .input .now)) (c .before .before .before .before .before .before .before .before .before .args .out .now) (c .before .before .before .before .loop .taken) (c .before .before .before .before .loop .written) (length (c .before .before .before .before .before .before .before .before .before .args .out .now)) (session (c .before .before .before .before .loop .account) (c .before .before .before .before .loop .length) (c .before .before .before .before .loop .line)) (c .before .before .before .before .before .before .before .before .before .args .input .now) (c .before .before .before .before .loop .out) (c .before .before .before .before .loop .inv .4) (omega arith) (c .before .if1 .taken) (omega (arith, c .if2 .taken))), (ahead-text (feeding (length (c .before .before .before .before .before .before .before .before .before .args .out .now)) (c .before .before .before .before .before .before .before .before .before .args .session) (c .before .before .before .before .before .before .before .before .before .args .input .now)) (c .before .before .before .before .before .before .before .before .before .args .out .now) (c .before .before .before .before .loop .taken) (c .before .before .before .before .loop .written) (session (c .before .before .before .before .loop .account) (c .before .before .before .before .loop .length) (c .before .before .before .before .loop .line)) (c .before .before .before .before .loop .out) (line-waits (feeding (length (c .before .before .before .before .before .before .before .before .before .args .out .now)) (c .before .before .before .before .before .before .before .before .before .args .session) (c .before .before .before .before .before .before .before .before .before .args .input .now)) (c .before .before .before .before .before .before .before .before .before .args .out .now) (c .before .before .before .before .loop .taken) (c .before .before .before .before .loop .written) (length (c .before .before .before .before .before .before .before .before .before .args .out .now)) (session (c .before .before .before .before .loop .account) (c .before .before .before .before .loop .length) (c .before .before .before .before .loop .line)) (c .before .before .before .before .before .before .before .before .before .args .input .now) (c .before .before .before .before .loop .out) (c .before .before .before .before .loop .inv .4) (omega arith) (c .before .if1 .taken) (omega (arith, c .if2 .taken))), ((omega arith, omega arith), c .before .before .before .before .loop .inv .5)))
+returns c = let l = c .before .before .before .before .before in
+    let waits = line-waits (made l) (text l) (l .loop .taken) (l .loop .written) (length (text l)) (stands l) (bytes l) (l .loop .out) (l .loop .inv .4) (omega arith) (c .before .before .if1 .taken) (omega (arith, c .before .if2 .taken)) in
+    (c .handed-back .ensures ∙ ahead-done (made l) (text l) (l .loop .taken) (l .loop .written) (stands l) (l .loop .out) waits, (ahead-text (made l) (text l) (l .loop .taken) (l .loop .written) (stands l) (l .loop .out) waits, (rw (c .handed-back .ensures) (omega arith, omega arith), rw (c .handed-back .ensures) (l .loop .inv .5))))
 
 shown-length-requires : tie.Need-shown-length-requires Inv-loop μ-loop
 shown-length-requires c κs = tt
@@ -57,72 +108,111 @@ array-share-prefix-line : tie.Need-array-share-prefix-line Inv-loop μ-loop
 array-share-prefix-line c = let long : length (c .before .before .before .before .before .loop .line) ≡ 31 = c .before .before .before .before .before .loop .inv .3 in
     rw (c .shown-length .ensures) (omega arith)
 
-slice-aggregate-answer-line : tie.Need-slice-aggregate-answer-line Inv-loop μ-loop
-slice-aggregate-answer-line c = let long : length (c .before .before .before .before .before .before .loop .line) ≡ 31 = c .before .before .before .before .before .before .loop .inv .3 in
-    rw (c .before .shown-length .ensures) (sym (length-take-le (min (c .before .before .before .before .before .before .loop .length) 31) (c .before .before .before .before .before .before .loop .line) (omega arith)))
+slice-aggregate-decode : tie.Need-slice-aggregate-decode Inv-loop μ-loop
+slice-aggregate-decode c = let l = c .before .before .before .before .before .before in
+    let long : length (l .loop .line) ≡ 31 = l .loop .inv .3 in
+    rw (c .before .shown-length .ensures) (sym (length-take-le (min (l .loop .length) 31) (l .loop .line) (omega arith)))
 
-answer-line-requires : tie.Need-answer-line-requires Inv-loop μ-loop
-answer-line-requires c κs = λ k. reached-whole (c .before .before .before .before .before .before .loop .account) (c .before .before .before .before .before .before .loop .inv .5 k)
+slice-aggregate-decode-2 : tie.Need-slice-aggregate-decode-2 Inv-loop μ-loop
+slice-aggregate-decode-2 c = sym (c .before .before .before .before .before .before .before .before .before .before .digit-table .ensures .long)
 
-put-answer-requires : tie.Need-put-answer-requires Inv-loop μ-loop
-put-answer-requires c κs = omega (arith, c .before .before .before .before .if2 .left)
+decode-requires : tie.Need-decode-requires Inv-loop μ-loop
+decode-requires c κs = c .before .before .before .before .before .before .before .before .before .before .digit-table .ensures
+
+light-line-requires : tie.Need-light-line-requires Inv-loop μ-loop
+light-line-requires c κs = c .before .before .before .before .before .before .before .before .loop .inv .5
 
 add-taken : tie.Need-add-taken Inv-loop μ-loop
-add-taken c = taken-fits (c .before .before .before .before .before .before .before .before .before)
+add-taken c = omega arith
+
+apply-requires : tie.Need-apply-requires Inv-loop μ-loop
+apply-requires c κs = tt
+
+answer-requires : tie.Need-answer-requires Inv-loop μ-loop
+answer-requires c κs = rw (c .apply .ensures) (c .before .before .light-line .ensures (c .before .if3 .taken) .open-bounds)
+
+put-answer-requires : tie.Need-put-answer-requires Inv-loop μ-loop
+put-answer-requires c κs = omega (arith, c .before .before .before .before .before .before .before .before .before .if2 .left)
 
 loop-less : tie.Need-loop-less Inv-loop μ-loop
-loop-less c = omega arith
+loop-less c = omega (arith, more (c .before .before .before .before .before .before .before .before .before .before .before .before .before .before .before))
 
 loop-again : tie.Need-loop-again Inv-loop μ-loop
-loop-again c = (
-  omega arith,
-  omega (arith, c .before .before .before .put-answer .ensures .1 .1, put-length (c .before .before .before), c .before .before .before .before .before .before .before .before .if2 .left),
-  put-length (c .before .before .before) ∙ c .before .before .before .before .before .before .before .before .before .before .before .before .loop .inv .2,
-  c .before .before .before .before .before .before .before .before .before .before .before .before .loop .inv .3,
-  line-ended (feeding (length (c .before .before .before .before .before .before .before .before .before .before .before .before .before .before .before .before .before .args .out .now)) (c .before .before .before .before .before .before .before .before .before .before .before .before .before .before .before .before .before .args .session) (c .before .before .before .before .before .before .before .before .before .before .before .before .before .before .before .before .before .args .input .now)) (c .before .before .before .before .before .before .before .before .before .before .before .before .before .before .before .before .before .args .out .now) (c .before .before .before .before .before .before .before .before .before .before .before .before .loop .taken) (c .before .before .before .before .before .before .before .before .before .before .before .before .loop .written) (length (c .before .before .before .before .before .before .before .before .before .before .before .before .before .before .before .before .before .args .out .now)) (session (c .before .before .before .before .before .before .before .before .before .before .before .before .loop .account) (c .before .before .before .before .before .before .before .before .before .before .before .before .loop .length) (c .before .before .before .before .before .before .before .before .before .before .before .before .loop .line)) (c .before .before .before .before .before .before .before .before .before .before .before .before .before .before .before .before .before .args .input .now) (c .before .before .before .before .before .before .before .before .before .before .before .before .loop .out) (c .before .before .before .before .before .before .before .before .before .before .before .before .loop .inv .4) (omega arith) (c .before .before .before .before .before .before .before .before .before .if1 .taken) (omega (arith, c .before .before .before .before .before .before .before .before .if2 .left)) (c .before .before .before .before .before .answer-line .result) (line-is (c .before .before .before .before .before)) (c .before .before .before .put-answer .last .1 .0) (c .before .before .before .put-answer .ensures .0) (c .before .before .before .put-answer .result) (c .before .before .before .put-answer .ensures .1 .0),
-  λ k. rw (line-is (c .before .before .before .before .before)) (reached-line (c .before .before .before .before .before .before .before .before .before .before .before .before .loop .account) (take (c .before .before .before .before .before .before .before .before .before .before .before .before .loop .length) (c .before .before .before .before .before .before .before .before .before .before .before .before .loop .line)) (c .before .before .before .before .before .before .before .before .before .before .before .before .loop .inv .5 k)),
-)
+loop-again c = let l = c .before .before .before .before .before .before .before .before .before .before .before .before .before .before .before .before in
+    let less : l .loop .taken < length (bytes l) = more (c .before .before .before .before .before .before .before .before .before .before .before .before .before .before .before) in (
+      omega (arith, less),
+      omega (arith, c .before .before .put-answer .ensures .1 .1, put-length (c .before .before), c .before .before .before .before .before .before .before .before .before .before .before .before .if2 .left),
+      put-length (c .before .before) ∙ l .loop .inv .2,
+      l .loop .inv .3,
+      line-ended (made l) (text l) (l .loop .taken) (l .loop .written) (length (text l)) (stands l) (bytes l) (l .loop .out) (l .loop .inv .4) less (c .before .before .before .before .before .before .before .before .before .before .before .before .before .if1 .taken) (omega (arith, c .before .before .before .before .before .before .before .before .before .before .before .before .if2 .left)) (record { account = c .before .before .before .before .before .apply .result; answer = c .before .before .before .before .answer .result }) (light-is (c .before .before .before .before)) (c .before .before .put-answer .last .1 .0) (c .before .before .put-answer .ensures .0) (c .before .before .put-answer .result) (c .before .before .put-answer .ensures .1 .0),
+      λ k. rw (ap (λ (o : Outcome). o .account) (light-is (c .before .before .before .before))) (reached-line (l .loop .account) (take (l .loop .length) (l .loop .line)) (l .loop .inv .5 k)),
+    )
+
+answer-line-requires : tie.Need-answer-line-requires Inv-loop μ-loop
+answer-line-requires c κs = λ k. reached-whole (c .before .before .before .before .before .before .before .before .before .before .loop .account) (c .before .before .before .before .before .before .before .before .before .before .loop .inv .5 k)
+
+put-answer-requires-2 : tie.Need-put-answer-requires-2 Inv-loop μ-loop
+put-answer-requires-2 c κs = omega (arith, c .before .before .before .before .before .before .before .before .if2 .left)
+
+loop-less-2 : tie.Need-loop-less-2 Inv-loop μ-loop
+loop-less-2 c = omega (arith, more (c .before .before .before .before .before .before .before .before .before .before .before .before .before .before .before))
+
+loop-again-2 : tie.Need-loop-again-2 Inv-loop μ-loop
+loop-again-2 c = let l = c .before .before .before .before .before .before .before .before .before .before .before .before .before .before .before .before in
+    let less : l .loop .taken < length (bytes l) = more (c .before .before .before .before .before .before .before .before .before .before .before .before .before .before .before) in (
+      omega (arith, less),
+      omega (arith, c .before .before .before .put-answer2 .ensures .1 .1, put-length-2 (c .before .before .before), c .before .before .before .before .before .before .before .before .before .before .before .before .if2 .left),
+      put-length-2 (c .before .before .before) ∙ l .loop .inv .2,
+      l .loop .inv .3,
+      line-ended (made l) (text l) (l .loop .taken) (l .loop .written) (length (text l)) (stands l) (bytes l) (l .loop .out) (l .loop .inv .4) less (c .before .before .before .before .before .before .before .before .before .before .before .before .before .if1 .taken) (omega (arith, c .before .before .before .before .before .before .before .before .before .before .before .before .if2 .left)) (c .before .before .before .before .before .answer-line .result) (line-is (c .before .before .before .before .before)) (c .before .before .before .put-answer2 .last .1 .0) (c .before .before .before .put-answer2 .ensures .0) (c .before .before .before .put-answer2 .result) (c .before .before .before .put-answer2 .ensures .1 .0),
+      λ k. rw (line-is (c .before .before .before .before .before)) (reached-line (l .loop .account) (take (l .loop .length) (l .loop .line)) (l .loop .inv .5 k)),
+    )
 
 add-taken-2 : tie.Need-add-taken-2 Inv-loop μ-loop
 add-taken-2 c = omega arith
 
 array-write-line : tie.Need-array-write-line Inv-loop μ-loop
-array-write-line c = omega (arith, c .if3 .taken)
+array-write-line c = omega (arith, c .if4 .taken)
 
 add-length : tie.Need-add-length Inv-loop μ-loop
 add-length c = omega arith
-
-loop-less-2 : tie.Need-loop-less-2 Inv-loop μ-loop
-loop-less-2 c = omega arith
-
-loop-again-2 : tie.Need-loop-again-2 Inv-loop μ-loop
-loop-again-2 c = (
-  omega arith,
-  omega arith,
-  c .before .before .before .before .loop .inv .2,
-  length-set (c .before .before .before .before .loop .line) (c .before .before .before .before .loop .length) (getD (c .before .before .before .before .before .before .before .before .before .args .input .now) (c .before .before .before .before .loop .taken) 0) ∙ c .before .before .before .before .loop .inv .3,
-  byte-kept (feeding (length (c .before .before .before .before .before .before .before .before .before .args .out .now)) (c .before .before .before .before .before .before .before .before .before .args .session) (c .before .before .before .before .before .before .before .before .before .args .input .now)) (c .before .before .before .before .before .before .before .before .before .args .out .now) (c .before .before .before .before .loop .taken) (c .before .before .before .before .loop .written) (length (c .before .before .before .before .before .before .before .before .before .args .out .now)) (session (c .before .before .before .before .loop .account) (c .before .before .before .before .loop .length) (c .before .before .before .before .loop .line)) (c .before .before .before .before .before .before .before .before .before .args .input .now) (c .before .before .before .before .loop .out) (c .before .before .before .before .loop .inv .4) (omega arith) (c .before .if1 .left) (session (c .before .before .before .before .loop .account) (c .before .before .before .before .loop .length + 1) (set (c .before .before .before .before .loop .line) (c .before .before .before .before .loop .length) (getD (c .before .before .before .before .before .before .before .before .before .args .input .now) (c .before .before .before .before .loop .taken) 0))) (kept-within (c .before .before .before .before .loop .account) (c .before .before .before .before .loop .length) (c .before .before .before .before .loop .line) (getD (c .before .before .before .before .before .before .before .before .before .args .input .now) (c .before .before .before .before .loop .taken) 0) (omega (arith, c .if3 .taken))),
-  c .before .before .before .before .loop .inv .5,
-)
 
 loop-less-3 : tie.Need-loop-less-3 Inv-loop μ-loop
 loop-less-3 c = omega arith
 
 loop-again-3 : tie.Need-loop-again-3 Inv-loop μ-loop
-loop-again-3 c = (
+loop-again-3 c = let l = c .before .before .before .before in (
   omega arith,
   omega arith,
-  c .before .before .before .before .loop .inv .2,
-  c .before .before .before .before .loop .inv .3,
-  byte-kept (feeding (length (c .before .before .before .before .before .before .before .before .before .args .out .now)) (c .before .before .before .before .before .before .before .before .before .args .session) (c .before .before .before .before .before .before .before .before .before .args .input .now)) (c .before .before .before .before .before .before .before .before .before .args .out .now) (c .before .before .before .before .loop .taken) (c .before .before .before .before .loop .written) (length (c .before .before .before .before .before .before .before .before .before .args .out .now)) (session (c .before .before .before .before .loop .account) (c .before .before .before .before .loop .length) (c .before .before .before .before .loop .line)) (c .before .before .before .before .before .before .before .before .before .args .input .now) (c .before .before .before .before .loop .out) (c .before .before .before .before .loop .inv .4) (omega arith) (c .before .if1 .left) (session (c .before .before .before .before .loop .account) (c .before .before .before .before .loop .length) (c .before .before .before .before .loop .line)) (kept-full (c .before .before .before .before .loop .account) (c .before .before .before .before .loop .length) (c .before .before .before .before .loop .line) (getD (c .before .before .before .before .before .before .before .before .before .args .input .now) (c .before .before .before .before .loop .taken) 0) (c .if3 .left)),
-  c .before .before .before .before .loop .inv .5,
+  l .loop .inv .2,
+  length-set (l .loop .line) (l .loop .length) (next l) ∙ l .loop .inv .3,
+  byte-kept (made l) (text l) (l .loop .taken) (l .loop .written) (length (text l)) (stands l) (bytes l) (l .loop .out) (l .loop .inv .4) (omega arith) (c .before .if1 .left) (session (l .loop .account) (l .loop .length + 1) (set (l .loop .line) (l .loop .length) (next l))) (kept-within (l .loop .account) (l .loop .length) (l .loop .line) (next l) (omega (arith, c .if4 .taken))),
+  l .loop .inv .5,
 )
 
+loop-less-4 : tie.Need-loop-less-4 Inv-loop μ-loop
+loop-less-4 c = omega arith
+
+loop-again-4 : tie.Need-loop-again-4 Inv-loop μ-loop
+loop-again-4 c = let l = c .before .before .before .before in (
+  omega arith,
+  omega arith,
+  l .loop .inv .2,
+  l .loop .inv .3,
+  byte-kept (made l) (text l) (l .loop .taken) (l .loop .written) (length (text l)) (stands l) (bytes l) (l .loop .out) (l .loop .inv .4) (omega arith) (c .before .if1 .left) (stands l) (kept-full (l .loop .account) (l .loop .length) (l .loop .line) (next l) (c .if4 .left)),
+  l .loop .inv .5,
+)
+
+handed-back-requires-2 : tie.Need-handed-back-requires-2 Inv-loop μ-loop
+handed-back-requires-2 c κs = tt
+
 same-length-2 : tie.Need-same-length-2 Inv-loop μ-loop
-same-length-2 c = c .before .loop .inv .2
+same-length-2 c = c .before .before .loop .inv .2
 
 returns-2 : tie.Need-returns-2 Inv-loop μ-loop
-returns-2 c = (ahead-done (feeding (length (c .before .before .before .before .before .before .args .out .now)) (c .before .before .before .before .before .before .args .session) (c .before .before .before .before .before .before .args .input .now)) (c .before .before .before .before .before .before .args .out .now) (c .before .loop .taken) (c .before .loop .written) (session (c .before .loop .account) (c .before .loop .length) (c .before .loop .line)) (c .before .loop .out) (input-ended (feeding (length (c .before .before .before .before .before .before .args .out .now)) (c .before .before .before .before .before .before .args .session) (c .before .before .before .before .before .before .args .input .now)) (c .before .before .before .before .before .before .args .out .now) (c .before .loop .taken) (c .before .loop .written) (length (c .before .before .before .before .before .before .args .out .now)) (session (c .before .loop .account) (c .before .loop .length) (c .before .loop .line)) (c .before .before .before .before .before .before .args .input .now) (c .before .loop .out) (c .before .loop .inv .4) (omega arith)), (ahead-text (feeding (length (c .before .before .before .before .before .before .args .out .now)) (c .before .before .before .before .before .before .args .session) (c .before .before .before .before .before .before .args .input .now)) (c .before .before .before .before .before .before .args .out .now) (c .before .loop .taken) (c .before .loop .written) (session (c .before .loop .account) (c .before .loop .length) (c .before .loop .line)) (c .before .loop .out) (input-ended (feeding (length (c .before .before .before .before .before .before .args .out .now)) (c .before .before .before .before .before .before .args .session) (c .before .before .before .before .before .before .args .input .now)) (c .before .before .before .before .before .before .args .out .now) (c .before .loop .taken) (c .before .loop .written) (length (c .before .before .before .before .before .before .args .out .now)) (session (c .before .loop .account) (c .before .loop .length) (c .before .loop .line)) (c .before .before .before .before .before .before .args .input .now) (c .before .loop .out) (c .before .loop .inv .4) (omega arith)), ((omega arith, omega arith), c .before .loop .inv .5)))
+returns-2 c = let l = c .before .before in
+    let ended = input-ended (made l) (text l) (l .loop .taken) (l .loop .written) (length (text l)) (stands l) (bytes l) (l .loop .out) (l .loop .inv .4) (omega arith) in
+    (c .handed-back2 .ensures ∙ ahead-done (made l) (text l) (l .loop .taken) (l .loop .written) (stands l) (l .loop .out) ended, (ahead-text (made l) (text l) (l .loop .taken) (l .loop .written) (stands l) (l .loop .out) ended, (rw (c .handed-back2 .ensures) (omega arith, omega arith), rw (c .handed-back2 .ensures) (l .loop .inv .5))))
 
 pub feed-as-spec : {M : Type 1} → statement M
 feed-as-spec =
@@ -130,25 +220,36 @@ feed-as-spec =
     (tie.spec
     Inv-loop
     μ-loop
+    digit-table-requires
     loop-holds
     shared-slice-read-character
     sub-if2
+    handed-back-requires
     same-length
     returns
     shown-length-requires
     array-share-prefix-line
-    slice-aggregate-answer-line
-    answer-line-requires
-    put-answer-requires
+    slice-aggregate-decode
+    slice-aggregate-decode-2
+    decode-requires
+    light-line-requires
     add-taken
+    apply-requires
+    answer-requires
+    put-answer-requires
     loop-less
     loop-again
+    answer-line-requires
+    put-answer-requires-2
+    loop-less-2
+    loop-again-2
     add-taken-2
     array-write-line
     add-length
-    loop-less-2
-    loop-again-2
     loop-less-3
     loop-again-3
+    loop-less-4
+    loop-again-4
+    handed-back-requires-2
     same-length-2
     returns-2)

@@ -2,10 +2,6 @@ use mathlib.Core.Path.{_≡_}
 use borrow.Author.Needs.{needs}
 use Rattle.account.proofs.light.answer.Statement.{statement}
 use Rattle.account.proofs.light.answer.Tie as tie
-use Rattle.account.proofs.light.answer.Reads as reads
-use Rattle.account.proofs.light.answer.Lts as lts
-use Rattle.account.proofs.whole.quiet_answer.Reads as quiet-answer-reads
-use Rattle.ledger.proofs.Ledger.unpaid.Reads as unpaid-reads
 
 quiet-answer-requires : tie.Need-quiet-answer-requires
 quiet-answer-requires c κs = search needs

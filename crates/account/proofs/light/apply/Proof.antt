@@ -3,9 +3,6 @@ use Rattle.ledger.specs.declared.Ledger.{Ledger}
 use borrow.Author.Needs.{needs}
 use Rattle.account.proofs.light.apply.Statement.{statement}
 use Rattle.account.proofs.light.apply.Tie as tie
-use Rattle.account.proofs.light.apply.Reads as reads
-use Rattle.account.proofs.light.apply.Lts as lts
-use Rattle.ledger.proofs.Ledger.with_oldest.Reads as with-oldest-reads
 
 with-oldest-requires : tie.Need-with-oldest-requires
 with-oldest-requires c κs = search needs

@@ -6,11 +6,6 @@ use Rattle.account.proofs.LightCalls.{not-light}
 use borrow.Author.Needs.{needs}
 use Rattle.account.proofs.light.changes.Statement.{statement}
 use Rattle.account.proofs.light.changes.Tie as tie
-use Rattle.account.proofs.light.changes.Reads as reads
-use Rattle.account.proofs.light.changes.Lts as lts
-use Rattle.account.proofs.light.exchange_meter.Reads as exchange-meter-reads
-use Rattle.account.proofs.light.pay.Reads as pay-reads
-use Rattle.account.proofs.light.unknown.Reads as unknown-reads
 
 enum-known-call : tie.Need-enum-known-call
 enum-known-call c = search needs

@@ -9,12 +9,6 @@ use Rattle.account.proofs.LightCalls.{not-light, exchange-lightly}
 use borrow.Author.Needs.{needs}
 use Rattle.account.proofs.light.exchange_meter.Statement.{statement}
 use Rattle.account.proofs.light.exchange_meter.Tie as tie
-use Rattle.account.proofs.light.exchange_meter.Reads as reads
-use Rattle.account.proofs.light.exchange_meter.Lts as lts
-use Rattle.account.proofs.light.unknown.Reads as unknown-reads
-use Rattle.account.proofs.refusals.exchange_refusal.Reads as exchange-refusal-reads
-use Rattle.ledger.proofs.Ledger.oldest_unpaid.Reads as oldest-unpaid-reads
-use Rattle.meter.proofs.dial_advance.Reads as dial-advance-reads
 
 passed : (c : tie.Else1) → exchangeRefusal (c .before .before .before .args .account) (c .before .before .before .args .day) (c .before .before .before .args .old) (c .before .before .before .args .new) (c .before .before .before .args .digits) ≡ 0
 passed c = sym (c .before .exchange-refusal .ensures) ∙ c .if1 .left

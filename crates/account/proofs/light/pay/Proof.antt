@@ -12,13 +12,6 @@ use Rattle.account.proofs.LightCalls.{not-light, spent-while-open, paym
 use borrow.Author.Needs.{needs}
 use Rattle.account.proofs.light.pay.Statement.{statement}
 use Rattle.account.proofs.light.pay.Tie as tie
-use Rattle.account.proofs.light.pay.Reads as reads
-use Rattle.account.proofs.light.pay.Lts as lts
-use Rattle.account.proofs.light.received.Reads as received-reads
-use Rattle.account.proofs.light.unknown.Reads as unknown-reads
-use Rattle.account.proofs.refusals.is_cancelled.Reads as is-cancelled-reads
-use Rattle.account.proofs.refusals.payment_refusal.Reads as payment-refusal-reads
-use Rattle.ledger.proofs.Ledger.oldest_unpaid.Reads as oldest-unpaid-reads
 
 passed : (c : tie.Else2) → paymentRefusal (c .before .before .before .before .before .before .args .account) (c .before .before .before .before .before .before .args .day) (c .before .before .before .before .before .before .args .yen) ≡ 0
 passed c = sym (c .before .payment-refusal .ensures) ∙ c .if2 .left
