@@ -26,9 +26,9 @@ use Rattle.account.specs.declared.Account.{Account}
 use Rattle.account.specs.Closing.{startOf, daysOf, ofThisPeriod}
 use Rattle.account.specs.Calls.{standingEstimates, poolTo, madeFinal, closingPrice, closingNet, closedLedger, paidLedger, isCancelled}
 use Rattle.account.specs.Whole.{wholeEstimate, whole}
-use Rattle.account.specs.Refusals.{readingRefusal, missRefusal, paymentRefusal}
+use Rattle.account.specs.Refusals.{readingRefusal, missRefusal, exchangeRefusal, paymentRefusal}
 use Rattle.account.proofs.Facts.{ItemFacts, MeterFacts, LedgerFacts, Facts, StatusFacts, made-facts, whole-facts, estimates-whole, supplied-facts, not-new-facts, cancelled-facts}
-use Rattle.account.proofs.Passed.{ReadingPassed, reading-passed, miss-passed, PaymentPassed, payment-passed}
+use Rattle.account.proofs.Passed.{ReadingPassed, reading-passed, miss-passed, exchange-passed, PaymentPassed, payment-passed}
 use Rattle.account.proofs.Sound.{Sound, Bounded, load, item-later, closed-bounded}
 use Rattle.account.proofs.Sound as Sound
 use Rattle.account.proofs.Nets.{billable, this-within, charge-most, credit-most}
@@ -148,6 +148,13 @@ miss-ready a day fuel w e =
     }
 
 -- A net that is charged.
+-- 05: the old meter's reading is on its dial.
+pub exchange-on-dial : (a : Account) (day old new digits : ℕ) → whole a ≡ true → exchangeRefusal a day old new digits ≡ 0 → OnDial (a .digits) (a .dial) old
+exchange-on-dial a day old new digits w e =
+    let passed = exchange-passed a day old new digits e in
+    let meter = supplied-facts (a .status) a (passed .supplied) (whole-facts a w) .1 .meter in
+    record { digits-within = meter .digits-within; old-within = meter .dial-within; new-within = passed .old-on-dial }
+
 pub charge-bounds : (n : ℕ) → n ≤ 100000000 → NetBounds (pos n)
 charge-bounds n h = (omega arith, omega arith)
 

@@ -11,11 +11,11 @@ ghost use Rattle.account.specs.Whole.{whole};
 use crate::Account;
 use crate::Answer;
 use crate::Call;
+use crate::closing::pool_to;
 use crate::refusals::exchange_refusal;
 use crate::refusals::is_cancelled;
 use crate::refusals::payment_refusal;
 use crate::whole::quiet_answer;
-use meter::dial_advance;
 
 // What a light call changes, and whether the call is known to be one. `oldest` is what is unpaid of the oldest item.
 pub struct Light {
@@ -57,7 +57,7 @@ fn exchange_meter(account: Account, day: u16, old: u32, new: u32, digits: u8) ->
         latest: day,
         digits: digits,
         dial: new,
-        pool: account.pool + dial_advance(account.digits, account.dial, old),
+        pool: pool_to(account, old),
         oldest: ledger.oldest_unpaid(),
         credit: ledger.credit,
     }

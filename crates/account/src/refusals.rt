@@ -6,8 +6,9 @@ ghost use Rattle.meter.specs.Dial.{OnDial};
 ghost use Rattle.account.specs.Closing.{startOf, stopOf};
 ghost use Rattle.account.specs.Calls.{isCancelled};
 ghost use Rattle.account.specs.Whole.{whole};
-ghost use Rattle.account.specs.Refusals.{isNew, isSupplied, isStopped, begins, advances, readingRefusal, missRefusal, dialRefusal, exchangeRefusal, paymentRefusal, lastRefusal};
+ghost use Rattle.account.specs.Refusals.{isNew, isSupplied, isStopped, begins, advances, readingRefusal, missRefusal, dialRefusal, exchangeRefusal, paymentRefusal, firstRefusal, lastRefusal};
 use crate::Account;
+use crate::Call;
 use crate::Status;
 use crate::validity::digits_allowed;
 use crate::validity::fuel_allowed;
@@ -215,6 +216,41 @@ pub fn payment_refusal(account: Account, day: u16, yen: u32) -> u8
         return 11;
     }
     0
+}
+
+// 1 to 11
+pub fn first_refusal(account: Account, call: Call) -> u8
+    requires { ⌜ whole account ≡ true ⌝ }
+    ensures { λ r. ⌜ r ≡ firstRefusal account call ⌝ }
+{
+    let status = account.status;
+    match call {
+        Call::Opening {
+            day,
+            reading,
+            digits,
+        } => dial_refusal(is_new(status), account, day, reading, digits),
+        Call::Reading { day, reading, fuel } => reading_refusal(account, day, reading, fuel),
+        Call::Missed { day, fuel } => miss_refusal(account, day, fuel),
+        Call::Absent { day, fuel } => miss_refusal(account, day, fuel),
+        Call::Exchange {
+            day,
+            old,
+            new,
+            digits,
+        } => exchange_refusal(account, day, old, new, digits),
+        Call::Disconnection { day, reading, fuel } => reading_refusal(account, day, reading, fuel),
+        Call::Reconnection {
+            day,
+            reading,
+            digits,
+        } => dial_refusal(is_stopped(status), account, day, reading, digits),
+        Call::Cancellation { day, reading, fuel } => reading_refusal(account, day, reading, fuel),
+        Call::Payment { day, yen } => payment_refusal(account, day, yen),
+        Call::StoppedCancellation { day } => {
+            start_refusal(is_stopped(status), account.latest, day)
+        }
+    }
 }
 
 // 12 and 13

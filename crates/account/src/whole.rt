@@ -6,11 +6,10 @@ ghost use Prim.Native.Nat.{ℕ, _≤_, _<_};
 ghost use lib.IntN.{pos};
 ghost use Rattle.meter.specs.Sharing.{standing, volumesOf};
 ghost use Rattle.ledger.specs.Posting.{capacity, OpenBounds};
-ghost use Rattle.account.specs.declared.Call.the-variants.{Opening, Reading, Missed, Absent, Exchange, Disconnection, Reconnection, Cancellation, Payment, StoppedCancellation};
-ghost use Rattle.account.specs.Closing.{resumedStart, storedEstimates};
-ghost use Rattle.account.specs.Calls.{begun, read, cancelled, missed, payment};
+ghost use Rattle.account.specs.Closing.{stopOf, resumedStart, storedEstimates};
+ghost use Rattle.account.specs.Calls.{begun, read, cancelled, missed, exchanged, payment, stoppedCancellation, work};
 ghost use Rattle.account.specs.Whole.{whole};
-ghost use Rattle.account.specs.Refusals.{readingRefusal, missRefusal, paymentRefusal};
+ghost use Rattle.account.specs.Refusals.{isStopped, begins, readingRefusal, missRefusal, dialRefusal, exchangeRefusal, paymentRefusal, firstRefusal};
 ghost use Rattle.account.specs.Outcomes.{declined, concluded, outcome};
 use crate::Account;
 use crate::Answer;
@@ -20,23 +19,16 @@ use crate::Status;
 use crate::closing::Closing;
 use crate::closing::close_period;
 use crate::closing::days_of;
-use crate::refusals::dial_refusal;
-use crate::refusals::exchange_refusal;
+use crate::closing::pool_to;
+use crate::refusals::first_refusal;
 use crate::refusals::is_cancelled;
-use crate::refusals::is_new;
-use crate::refusals::is_stopped;
 use crate::refusals::limit_refusal;
-use crate::refusals::miss_refusal;
-use crate::refusals::payment_refusal;
-use crate::refusals::reading_refusal;
 use crate::refusals::start_of;
-use crate::refusals::start_refusal;
 use crate::refusals::stop_of;
 use ledger::Ledger;
 use meter::Estimate;
 use meter::Estimates;
 use meter::Volumes;
-use meter::dial_advance;
 use tariff::Fuel;
 use tariff::price;
 
@@ -133,19 +125,6 @@ fn begin_period(account: Account, day: u16, reading: u32, digits: u8, start: u16
     finish(account, after, quiet_answer(0))
 }
 
-// 01
-fn begin_supply(account: Account, day: u16, reading: u32, digits: u8) -> Outcome
-    requires { ⌜ whole account ≡ true ⌝ }
-    ensures { λ r. ⌜ r ≡ outcome account (Opening day reading digits) ⌝ }
-{
-    let status = account.status;
-    let number = dial_refusal(is_new(status), account, day, reading, digits);
-    if number != 0 {
-        return decline(account, number);
-    }
-    begin_period(account, day, reading, digits, day)
-}
-
 // The period begins on the day of a resumption, and on the day after where that is the stop day: 14(3).
 fn resumed_start(stop: u16, day: u16) -> u16
     requires { ⌜ day ≤ 36494 ⌝ }
@@ -157,32 +136,28 @@ fn resumed_start(stop: u16, day: u16) -> u16
 // 07
 fn reconnect(account: Account, day: u16, reading: u32, digits: u8) -> Outcome
     requires { ⌜ whole account ≡ true ⌝ }
-    ensures { λ r. ⌜ r ≡ outcome account (Reconnection day reading digits) ⌝ }
+    requires { ⌜ dialRefusal (isStopped (account .status)) account day reading digits ≡ 0 ⌝ }
+    ensures { λ r. ⌜ r ≡ concluded account (begun account day reading digits (resumedStart (stopOf (account .status)) day)) ⌝ }
 {
     let status = account.status;
-    let number = dial_refusal(is_stopped(status), account, day, reading, digits);
-    if number != 0 {
-        return decline(account, number);
-    }
     let start = resumed_start(stop_of(status), day);
     begin_period(account, day, reading, digits, start)
 }
 
 // 05: the old meter's advance goes to the pool, and the new meter goes on. No period closes.
-fn exchange_meter(mut account: Account, day: u16, old: u32, new: u32, digits: u8) -> Outcome
+fn exchange_meter(account: Account, day: u16, old: u32, new: u32, digits: u8) -> Outcome
     requires { ⌜ whole account ≡ true ⌝ }
-    ensures { λ r. ⌜ r ≡ outcome account (Exchange day old new digits) ⌝ }
+    requires { ⌜ exchangeRefusal account day old new digits ≡ 0 ⌝ }
+    ensures { λ r. ⌜ r ≡ concluded account (exchanged account day old new digits) ⌝ }
 {
-    let before = account;
-    let number = exchange_refusal(account, day, old, new, digits);
-    if number != 0 {
-        return decline(account, number);
-    }
-    account.pool += dial_advance(account.digits, account.dial, old);
-    account.latest = day;
-    account.digits = digits;
-    account.dial = new;
-    finish(before, account, quiet_answer(0))
+    let after = Account {
+        latest: day,
+        digits: digits,
+        dial: new,
+        pool: pool_to(account, old),
+        ..account
+    };
+    finish(account, after, quiet_answer(0))
 }
 
 // 02, 06 and 08: all volumes are final, so no estimate stands and the pool is 0.
@@ -261,48 +236,6 @@ fn close_cancelled(account: Account, day: u16, reading: u32, fuel: Fuel) -> Outc
     finish(account, after, closing_answer(closing, interest))
 }
 
-// 02
-fn read_meter(account: Account, day: u16, reading: u32, fuel: Fuel) -> Outcome
-    requires { ⌜ whole account ≡ true ⌝ }
-    ensures { λ r. ⌜ r ≡ outcome account (Reading day reading fuel) ⌝ }
-{
-    let number = reading_refusal(account, day, reading, fuel);
-    if number != 0 {
-        return decline(account, number);
-    }
-    close_reading(
-        account,
-        day,
-        reading,
-        fuel,
-        Status::Supplied { start: day + 1 },
-    )
-}
-
-// 06
-fn disconnect(account: Account, day: u16, reading: u32, fuel: Fuel) -> Outcome
-    requires { ⌜ whole account ≡ true ⌝ }
-    ensures { λ r. ⌜ r ≡ outcome account (Disconnection day reading fuel) ⌝ }
-{
-    let number = reading_refusal(account, day, reading, fuel);
-    if number != 0 {
-        return decline(account, number);
-    }
-    close_reading(account, day, reading, fuel, Status::Stopped { stop: day })
-}
-
-// 08
-fn cancel(account: Account, day: u16, reading: u32, fuel: Fuel) -> Outcome
-    requires { ⌜ whole account ≡ true ⌝ }
-    ensures { λ r. ⌜ r ≡ outcome account (Cancellation day reading fuel) ⌝ }
-{
-    let number = reading_refusal(account, day, reading, fuel);
-    if number != 0 {
-        return decline(account, number);
-    }
-    close_cancelled(account, day, reading, fuel)
-}
-
 // The estimates with one more behind them.
 fn with_estimate(estimates: Estimates, estimate: Estimate) -> Estimates
     requires { ⌜ estimates .count < 6 ⌝ }
@@ -372,30 +305,6 @@ fn estimate_answer(volume: u32, charged: u32, interest: u64) -> Answer
     }
 }
 
-// 03: the volume of the period just before.
-fn miss_reading(account: Account, day: u16, fuel: Fuel) -> Outcome
-    requires { ⌜ whole account ≡ true ⌝ }
-    ensures { λ r. ⌜ r ≡ outcome account (Missed day fuel) ⌝ }
-{
-    let number = miss_refusal(account, day, fuel);
-    if number != 0 {
-        return decline(account, number);
-    }
-    close_estimated(account, day, fuel, false, account.previous)
-}
-
-// 04: 0.
-fn note_absence(account: Account, day: u16, fuel: Fuel) -> Outcome
-    requires { ⌜ whole account ≡ true ⌝ }
-    ensures { λ r. ⌜ r ≡ outcome account (Absent day fuel) ⌝ }
-{
-    let number = miss_refusal(account, day, fuel);
-    if number != 0 {
-        return decline(account, number);
-    }
-    close_estimated(account, day, fuel, true, 0)
-}
-
 // 09: interest that the payment brings is held, and on a cancelled account posted at once.
 fn receive(mut account: Account, day: u16, yen: u32) -> Outcome
     requires { ⌜ whole account ≡ true ⌝ }
@@ -415,37 +324,63 @@ fn receive(mut account: Account, day: u16, yen: u32) -> Outcome
     finish(before, account, quiet_answer(0))
 }
 
-// 09
-fn pay(account: Account, day: u16, yen: u32) -> Outcome
-    requires { ⌜ whole account ≡ true ⌝ }
-    ensures { λ r. ⌜ r ≡ outcome account (Payment day yen) ⌝ }
-{
-    let number = payment_refusal(account, day, yen);
-    if number != 0 {
-        return decline(account, number);
-    }
-    receive(account, day, yen)
-}
-
 // 0a: interest held is posted, as by a closing with no net.
 fn cancel_stopped(account: Account, day: u16) -> Outcome
     requires { ⌜ whole account ≡ true ⌝ }
-    ensures { λ r. ⌜ r ≡ outcome account (StoppedCancellation day) ⌝ }
+    requires { ⌜ begins (isStopped (account .status)) (account .latest) day 0 ≡ 0 ⌝ }
+    ensures { λ r. ⌜ r ≡ concluded account (stoppedCancellation account day) ⌝ }
 {
-    let status = account.status;
     let before = account.ledger;
-    let number = start_refusal(is_stopped(status), account.latest, day);
-    if number != 0 {
-        return decline(account, number);
-    }
-    let ledger = before.close(day, 0);
     let after = Account {
         status: Status::Cancelled,
         latest: day,
-        ledger: ledger,
+        ledger: before.close(day, 0),
         ..account
     };
     finish(account, after, quiet_answer(before.held))
+}
+
+// What a call comes to that 1 to 11 let pass.
+fn conclude(account: Account, call: Call) -> Outcome
+    requires { ⌜ whole account ≡ true ⌝ }
+    requires { ⌜ firstRefusal account call ≡ 0 ⌝ }
+    ensures { λ r. ⌜ r ≡ concluded account (work account call) ⌝ }
+{
+    match call {
+        Call::Opening {
+            day,
+            reading,
+            digits,
+        } => begin_period(account, day, reading, digits, day),
+        Call::Reading { day, reading, fuel } => {
+            close_reading(
+                account,
+                day,
+                reading,
+                fuel,
+                Status::Supplied { start: day + 1 },
+            )
+        }
+        Call::Missed { day, fuel } => close_estimated(account, day, fuel, false, account.previous),
+        Call::Absent { day, fuel } => close_estimated(account, day, fuel, true, 0),
+        Call::Exchange {
+            day,
+            old,
+            new,
+            digits,
+        } => exchange_meter(account, day, old, new, digits),
+        Call::Disconnection { day, reading, fuel } => {
+            close_reading(account, day, reading, fuel, Status::Stopped { stop: day })
+        }
+        Call::Reconnection {
+            day,
+            reading,
+            digits,
+        } => reconnect(account, day, reading, digits),
+        Call::Cancellation { day, reading, fuel } => close_cancelled(account, day, reading, fuel),
+        Call::Payment { day, yen } => receive(account, day, yen),
+        Call::StoppedCancellation { day } => cancel_stopped(account, day),
+    }
 }
 
 // Any call.
@@ -453,29 +388,9 @@ pub fn answer(account: Account, call: Call) -> Outcome
     requires { ⌜ whole account ≡ true ⌝ }
     ensures { λ r. ⌜ r ≡ outcome account call ⌝ }
 {
-    match call {
-        Call::Opening {
-            day,
-            reading,
-            digits,
-        } => begin_supply(account, day, reading, digits),
-        Call::Reading { day, reading, fuel } => read_meter(account, day, reading, fuel),
-        Call::Missed { day, fuel } => miss_reading(account, day, fuel),
-        Call::Absent { day, fuel } => note_absence(account, day, fuel),
-        Call::Exchange {
-            day,
-            old,
-            new,
-            digits,
-        } => exchange_meter(account, day, old, new, digits),
-        Call::Disconnection { day, reading, fuel } => disconnect(account, day, reading, fuel),
-        Call::Reconnection {
-            day,
-            reading,
-            digits,
-        } => reconnect(account, day, reading, digits),
-        Call::Cancellation { day, reading, fuel } => cancel(account, day, reading, fuel),
-        Call::Payment { day, yen } => pay(account, day, yen),
-        Call::StoppedCancellation { day } => cancel_stopped(account, day),
+    let number = first_refusal(account, call);
+    if number != 0 {
+        return decline(account, number);
     }
+    conclude(account, call)
 }
