@@ -10,11 +10,11 @@ ghost use Rattle.text.specs.Pieces.{Follows};
 ghost use Rattle.text.specs.Reached.{Reached};
 use libc::STDIN_FILENO;
 use libc::STDOUT_FILENO;
-use text::Session;
+use text::State;
 
 // Where a run stands: sound until a read or a write fails.
 pub struct Run {
-    pub session: Session,
+    pub state: State,
     pub sound: bool,
 }
 
@@ -31,48 +31,48 @@ fn print(text: &[u8], is_printing: bool) -> bool {
 }
 
 // Feeds a block from its start to its end. All comes from a new account, so number 41 is not asked.
-fn feed_block(session: Session, block: &[u8], is_printing: bool) -> Run
-    requires { ⌜ Reached (session .account) ⌝ }
-    ensures { λ r. ⌜ Reached (r .session .account) ⌝ }
-    ensures { λ r. ⌜ (r .sound ≡ true → (seen : List ℕ) → Follows seen session → Follows (seen ++ now (block .entry)) (r .session)) ⌝ }
+fn feed_block(state: State, block: &[u8], is_printing: bool) -> Run
+    requires { ⌜ Reached (state .account) ⌝ }
+    ensures { λ r. ⌜ Reached (r .state .account) ⌝ }
+    ensures { λ r. ⌜ (r .sound ≡ true → (seen : List ℕ) → Follows seen state → Follows (seen ++ now (block .entry)) (r .state)) ⌝ }
 {
-    let mut session = session;
+    let mut state = state;
     let mut out = io::large_buffer();
     let mut at: usize = 0;
     while at < block.len() {
-        let fed = text::feed_as(session, &block[at..], &mut out, true);
+        let fed = text::feed_as(state, &block[at..], &mut out, true);
         let written = fed.written;
-        session = fed.session;
+        state = fed.state;
         at += fed.taken;
         if !print(&out[..written], is_printing) {
             return Run {
-                session,
+                state,
                 sound: false,
             };
         }
     }
     Run {
-        session,
+        state,
         sound: true,
     }
 }
 
 // The end of the input.
-fn end_input(session: Session, is_printing: bool) -> Run
-    requires { ⌜ Reached (session .account) ⌝ }
-    ensures { λ r. ⌜ ((seen : List ℕ) → Follows seen session → r .session .account ≡ accountAfter newAccount (linesOf seen)) ⌝ }
+fn end_input(state: State, is_printing: bool) -> Run
+    requires { ⌜ Reached (state .account) ⌝ }
+    ensures { λ r. ⌜ ((seen : List ℕ) → Follows seen state → r .state .account ≡ accountAfter newAccount (linesOf seen)) ⌝ }
 {
     let mut out = [0u8; 117];
-    let fed = text::finish_as(session, &mut out, true);
+    let fed = text::finish_as(state, &mut out, true);
     let written = fed.written;
     let sound = print(&out[..written], is_printing);
-    let session = fed.session;
-    Run { session, sound }
+    let state = fed.state;
+    Run { state, sound }
 }
 
 // Feeds all of standard input. What a failed read leaves half read is not taken for a line.
 pub fn feed_input(is_printing: bool) -> Run {
-    let mut session = Session::new();
+    let mut state = State::new();
     let mut block = io::large_buffer();
     // a proved loop has to end, and nothing says that the input does: no run uses up these turns
     let mut turns = u64::MAX;
@@ -82,22 +82,22 @@ pub fn feed_input(is_printing: bool) -> Run {
         if got < 0 {
             os::fail(b"standard input");
             return Run {
-                session,
+                state,
                 sound: false,
             };
         }
         if got == 0 {
-            return end_input(session, is_printing);
+            return end_input(state, is_printing);
         }
         let count = io::count(got, &block);
-        let fed = feed_block(session, &block[..count], is_printing);
+        let fed = feed_block(state, &block[..count], is_printing);
         if !fed.sound {
             return fed;
         }
-        session = fed.session;
+        state = fed.state;
     }
     Run {
-        session,
+        state,
         sound: false,
     }
 }

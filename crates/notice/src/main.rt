@@ -7,7 +7,7 @@ fn main() {
         return;
     }
     let mut out = [0u8; 2520];
-    let size = text::put_notices(run.session.account, &mut out);
+    let size = text::put_notices(run.state.account, &mut out);
     if size <= 2520 {
         if !io::write_all(STDOUT_FILENO, &out[..size]) {
             os::fail(b"standard output");

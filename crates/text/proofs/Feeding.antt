@@ -18,30 +18,30 @@ use Rattle.wire.specs.Digits.{written}
 use Rattle.wire.specs.Answers.{lineFeed, answerLine, longestAnswer}
 use Rattle.wire.specs.Notices.{noticeLine}
 use Rattle.wire.proofs.Writing.{written-behind, length-notice}
-use Rattle.text.specs.declared.Session.{Session}
+use Rattle.text.specs.declared.State.{State}
 use Rattle.text.specs.Output.{noticesOf}
 use Rattle.text.specs.Feeding.{kept, lineEnds, ended, Feeding, nothing, behind, feeding, finishing, fedOf}
 
-abbrev pub session : Account → ℕ → List ℕ → Session
-session account long line = record { account = account; length = long; line = line }
+abbrev pub state : Account → ℕ → List ℕ → State
+state account long line = record { account = account; length = long; line = line }
 
 -- Of the input's next byte, the three ways.
-pub feed-ends : (room : ℕ) (s : Session) (c : ℕ) (cs : List ℕ) → c ≡ 10 → longestAnswer ≤ room → feeding room s (c ∷ cs) ≡ behind (answerLine (lineEnds s .answer)) (feeding (room - length (answerLine (lineEnds s .answer))) (ended s) cs)
+pub feed-ends : (room : ℕ) (s : State) (c : ℕ) (cs : List ℕ) → c ≡ 10 → longestAnswer ≤ room → feeding room s (c ∷ cs) ≡ behind (answerLine (lineEnds s .answer)) (feeding (room - length (answerLine (lineEnds s .answer))) (ended s) cs)
 unfolding feeding
 feed-ends room s c cs e h = rw (eq-eqb c 10 e, le-ltb room 117 h) refl
 
-pub feed-stops : (room : ℕ) (s : Session) (c : ℕ) (cs : List ℕ) → c ≡ 10 → room < longestAnswer → feeding room s (c ∷ cs) ≡ nothing s
+pub feed-stops : (room : ℕ) (s : State) (c : ℕ) (cs : List ℕ) → c ≡ 10 → room < longestAnswer → feeding room s (c ∷ cs) ≡ nothing s
 unfolding feeding
 feed-stops room s c cs e h = rw (eq-eqb c 10 e, lt-ltb room 117 h) refl
 
-pub feed-keeps : (room : ℕ) (s : Session) (c : ℕ) (cs : List ℕ) → (c ≡ 10 → ⊥) → feeding room s (c ∷ cs) ≡ behind [] (feeding room (kept s c) cs)
+pub feed-keeps : (room : ℕ) (s : State) (c : ℕ) (cs : List ℕ) → (c ≡ 10 → ⊥) → feeding room s (c ∷ cs) ≡ behind [] (feeding room (kept s c) cs)
 unfolding feeding
 feed-keeps room s c cs n = rw (ne-eqb c 10 n) refl
 
-pub kept-within : (a : Account) (n : ℕ) (line : List ℕ) (c : ℕ) → n < 31 → kept (session a n line) c ≡ session a (n + 1) (set line n c)
+pub kept-within : (a : Account) (n : ℕ) (line : List ℕ) (c : ℕ) → n < 31 → kept (state a n line) c ≡ state a (n + 1) (set line n c)
 kept-within a n line c h = rw (lt-ltb n 31 h, add-one n) refl
 
-pub kept-full : (a : Account) (n : ℕ) (line : List ℕ) (c : ℕ) → 31 ≤ n → kept (session a n line) c ≡ session a n line
+pub kept-full : (a : Account) (n : ℕ) (line : List ℕ) (c : ℕ) → 31 ≤ n → kept (state a n line) c ≡ state a n line
 kept-full a n line c h = rw (le-ltb n 31 h) refl
 
 -- More elements than there are are all there are.
@@ -54,36 +54,36 @@ take-min n m xs l = go (leb n m) refl
 
 -- A feeding under way: the whole is what is done, with what the rest makes behind it.
 pub record Ahead (whole : Feeding) (text : List ℕ) (taken place : ℕ) (rest : Feeding) (out : List ℕ) : Type 0 where
-  pub same-session : whole .session ≡ rest .session
+  pub same-state : whole .state ≡ rest .state
   pub same-text : written text 0 (whole .output) ≡ written out place (rest .output)
   pub same-taken : whole .taken ≡ taken + rest .taken
   pub same-length : length (whole .output) ≡ place + length (rest .output)
 
 pub ahead-start : (whole : Feeding) (text : List ℕ) → Ahead whole text 0 0 whole text
 ahead-start whole text =
-    record { same-session = refl; same-text = refl; same-taken = sym (zero-add (whole .taken)); same-length = sym (zero-add (length (whole .output))) }
+    record { same-state = refl; same-text = refl; same-taken = sym (zero-add (whole .taken)); same-length = sym (zero-add (length (whole .output))) }
 
 pub ahead-on : (whole : Feeding) (text : List ℕ) (taken place : ℕ) (xs : List ℕ) (rest : Feeding) (out : List ℕ) → Ahead whole text taken place (behind xs rest) out → Ahead whole text (taken + 1) (place + length xs) rest (written out place xs)
 ahead-on whole text taken place xs rest out a =
     record {
-      same-session = a .same-session;
+      same-state = a .same-state;
       same-text = a .same-text ∙ written-behind out place xs (rest .output);
       same-taken = a .same-taken ∙ omega arith;
       same-length = a .same-length ∙ rw (length-append xs (rest .output)) (omega arith);
     }
 
-pub ahead-done : (whole : Feeding) (text : List ℕ) (taken place : ℕ) (s : Session) (out : List ℕ) → Ahead whole text taken place (nothing s) out → record { session = s; taken = taken; written = place } ≡ fedOf whole
-ahead-done whole text taken place s out a = rw (a .same-session, a .same-taken, a .same-length, add-zero taken, add-zero place) refl
+pub ahead-done : (whole : Feeding) (text : List ℕ) (taken place : ℕ) (s : State) (out : List ℕ) → Ahead whole text taken place (nothing s) out → record { state = s; taken = taken; written = place } ≡ fedOf whole
+ahead-done whole text taken place s out a = rw (a .same-state, a .same-taken, a .same-length, add-zero taken, add-zero place) refl
 
-pub ahead-text : (whole : Feeding) (text : List ℕ) (taken place : ℕ) (s : Session) (out : List ℕ) → Ahead whole text taken place (nothing s) out → out ≡ written text 0 (whole .output)
+pub ahead-text : (whole : Feeding) (text : List ℕ) (taken place : ℕ) (s : State) (out : List ℕ) → Ahead whole text taken place (nothing s) out → out ≡ written text 0 (whole .output)
 ahead-text whole text taken place s out a = sym (a .same-text)
 
 -- A feeding under way, by what the next byte is. The room left is size - place.
-module _ (whole : Feeding) (text : List ℕ) (taken place size : ℕ) (s : Session) (input out : List ℕ) (a : Ahead whole text taken place (feeding (size - place) s (drop taken input)) out) where
+module _ (whole : Feeding) (text : List ℕ) (taken place size : ℕ) (s : State) (input out : List ℕ) (a : Ahead whole text taken place (feeding (size - place) s (drop taken input)) out) where
   next-byte : taken < length input → Ahead whole text taken place (feeding (size - place) s (getD input taken 0 ∷ drop (suc taken) input)) out
   next-byte h = rw (← drop-cons input taken 0 h) a
 
-  pub line-ended : taken < length input → getD input taken 0 ≡ 10 → longestAnswer ≤ size - place → (o : Outcome) → o ≡ lineEnds s → (text′ : List ℕ) → text′ ≡ written out place (answerLine (o .answer)) → (place′ : ℕ) → place′ ≡ place + length (answerLine (o .answer)) → Ahead whole text (taken + 1) place′ (feeding (size - place′) (session (o .account) 0 (s .line)) (drop (taken + 1) input)) text′
+  pub line-ended : taken < length input → getD input taken 0 ≡ 10 → longestAnswer ≤ size - place → (o : Outcome) → o ≡ lineEnds s → (text′ : List ℕ) → text′ ≡ written out place (answerLine (o .answer)) → (place′ : ℕ) → place′ ≡ place + length (answerLine (o .answer)) → Ahead whole text (taken + 1) place′ (feeding (size - place′) (state (o .account) 0 (s .line)) (drop (taken + 1) input)) text′
   line-ended h e r o f text′ g place′ k =
       rw (g, k, f, add-one taken, room (length (answerLine (lineEnds s .answer)))) (rw (add-one taken) at (ahead-on whole text taken place (answerLine (lineEnds s .answer)) (feeding (size - place - length (answerLine (lineEnds s .answer))) (ended s) (drop (suc taken) input)) out (rw (feed-ends (size - place) s (getD input taken 0) (drop (suc taken) input) e r) at (next-byte h))))
     where
@@ -93,7 +93,7 @@ module _ (whole : Feeding) (text : List ℕ) (taken place size : ℕ) (s : Sessi
   pub line-waits : taken < length input → getD input taken 0 ≡ 10 → size - place < longestAnswer → Ahead whole text taken place (nothing s) out
   line-waits h e r = rw (feed-stops (size - place) s (getD input taken 0) (drop (suc taken) input) e r) at (next-byte h)
 
-  pub byte-kept : taken < length input → (getD input taken 0 ≡ 10 → ⊥) → (s′ : Session) → kept s (getD input taken 0) ≡ s′ → Ahead whole text (taken + 1) place (feeding (size - place) s′ (drop (taken + 1) input)) out
+  pub byte-kept : taken < length input → (getD input taken 0 ≡ 10 → ⊥) → (s′ : State) → kept s (getD input taken 0) ≡ s′ → Ahead whole text (taken + 1) place (feeding (size - place) s′ (drop (taken + 1) input)) out
   byte-kept h n s′ f =
       rw (← f, add-one taken) (rw (add-one taken, add-zero place) at (ahead-on whole text taken place [] (feeding (size - place) (kept s (getD input taken 0)) (drop (suc taken) input)) out (rw (feed-keeps (size - place) s (getD input taken 0) (drop (suc taken) input) n) at (next-byte h))))
 
@@ -102,11 +102,11 @@ module _ (whole : Feeding) (text : List ℕ) (taken place size : ℕ) (s : Sessi
   input-ended h = rw (drop-of-length-le input h) at a
 
 -- At the end of the input.
-pub finish-none : (room : ℕ) (s : Session) → s .length ≡ 0 → finishing room s ≡ nothing s
+pub finish-none : (room : ℕ) (s : State) → s .length ≡ 0 → finishing room s ≡ nothing s
 unfolding finishing
 finish-none room s e = rw (eq-eqb (s .length) 0 e) refl
 
-pub finish-line : (room : ℕ) (s : Session) → (s .length ≡ 0 → ⊥) → finishing room s ≡ feeding room s (lineFeed ∷ [])
+pub finish-line : (room : ℕ) (s : State) → (s .length ≡ 0 → ⊥) → finishing room s ≡ feeding room s (lineFeed ∷ [])
 unfolding finishing
 finish-line room s n = rw (ne-eqb (s .length) 0 n) refl
 
@@ -115,7 +115,7 @@ pub notices-length : (count : ℕ) (items : List Item) → length items ≡ 72 �
 notices-length count items l = ap (λ xs. length (noticesOf xs)) (sym (take-min count 72 items l)) ∙ joined-taken noticeLine 35 length-notice items (min count 72) (omega arith)
 
 -- Where there is room for a line, feeding goes on.
-pub taken-some : (room : ℕ) (s : Session) (bytes : List ℕ) → longestAnswer ≤ room → 1 ≤ length bytes → 1 ≤ feeding room s bytes .taken
+pub taken-some : (room : ℕ) (s : State) (bytes : List ℕ) → longestAnswer ≤ room → 1 ≤ length bytes → 1 ≤ feeding room s bytes .taken
 unfolding feeding
 taken-some room s [] h k = absurd (not-suc-le-zero k)
 taken-some room s (c ∷ cs) h k = go (eqb c lineFeed) refl

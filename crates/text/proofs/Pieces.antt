@@ -16,21 +16,21 @@ use Rattle.account.specs.Calls.{newAccount}
 use Rattle.wire.specs.Frames.{parsed}
 use Rattle.wire.specs.Answers.{lineFeed, answerLine, longestAnswer}
 use Rattle.wire.proofs.Frames.{too-long}
-use Rattle.text.specs.declared.Session.{Session}
+use Rattle.text.specs.declared.State.{State}
 use Rattle.text.specs.Lines.{linesFrom, linesOf}
 use Rattle.text.specs.Output.{parsedOutcome, lineOutcome, answersOf, accountAfter, bill}
 use Rattle.text.specs.Feeding.{fresh, lineOf, kept, lineEnds, ended, Feeding, nothing, behind, feeding, finishing}
-use Rattle.text.specs.Pieces.{linesIn, partAfter, made, Holds, Stands, Follows, Piece, sessionAfter, takenOf, writtenOf}
+use Rattle.text.specs.Pieces.{linesIn, partAfter, made, Holds, Stands, Follows, Piece, stateAfter, takenOf, writtenOf}
 use Rattle.text.proofs.Feeding.{feed-ends, finish-none, finish-line}
 use Rattle.text.proofs.Lines.{lines-split, lines-on, part-on, answers-behind, account-behind}
 
 pub holds-fresh : Holds fresh []
 holds-fresh = record { line-is = refl; length-is = refl; line-long = refl }
 
-holds-ended : (s : Session) (part : List ℕ) → Holds s part → Holds (ended s) []
+holds-ended : (s : State) (part : List ℕ) → Holds s part → Holds (ended s) []
 holds-ended s part h = record { line-is = refl; length-is = refl; line-long = h .line-long }
 
-holds-kept : (s : Session) (part : List ℕ) (c : ℕ) → Holds s part → Holds (kept s c) (part ++ (c ∷ []))
+holds-kept : (s : State) (part : List ℕ) (c : ℕ) → Holds s part → Holds (kept s c) (part ++ (c ∷ []))
 holds-kept s part c h = go (ltb (s .length) 31) refl
   where
     go : (b : Bool) → ltb (s .length) 31 ≡ b → Holds (kept s c) (part ++ (c ∷ []))
@@ -48,7 +48,7 @@ holds-kept s part c h = go (ltb (s .length) 31) refl
         rw e (record { line-is = h .line-is ∙ sym (take-append-le 31 part (c ∷ []) (omega arith)); length-is = omega arith; line-long = h .line-long })
 
 -- What is kept of a line is enough to read it.
-line-read : (s : Session) (part : List ℕ) → Holds s part → parsed (lineOf s) ≡ parsed part
+line-read : (s : State) (part : List ℕ) → Holds s part → parsed (lineOf s) ≡ parsed part
 line-read s part h = ap parsed (h .line-is) ∙ go (leb (length part) 31) refl
   where
     go : (b : Bool) → leb (length part) 31 ≡ b → parsed (take 31 part) ≡ parsed part
@@ -57,20 +57,20 @@ line-read s part h = ap parsed (h .line-is) ∙ go (leb (length part) 31) refl
         let more : 31 < length part = leb-false (length part) 31 e in
         too-long (take 31 part) (rw (length-take-le 31 part (le-of-lt more)) (omega arith)) ∙ sym (too-long part (omega arith))
 
-ends-alike : (s : Session) (part : List ℕ) → Holds s part → lineEnds s ≡ lineOutcome (s .account) part
+ends-alike : (s : State) (part : List ℕ) → Holds s part → lineEnds s ≡ lineOutcome (s .account) part
 ends-alike s part h = ap (parsedOutcome (s .account)) (line-read s part h)
 
 -- What a piece did: it ended the lines of what was taken of it.
-pub record Went (s : Session) (part bytes : List ℕ) (f : Feeding) : Type 0 where
-  pub holds : Holds (f .session) (partAfter part (take (f .taken) bytes))
-  pub account-is : f .session .account ≡ accountAfter (s .account) (linesIn part (take (f .taken) bytes))
+pub record Went (s : State) (part bytes : List ℕ) (f : Feeding) : Type 0 where
+  pub holds : Holds (f .state) (partAfter part (take (f .taken) bytes))
+  pub account-is : f .state .account ≡ accountAfter (s .account) (linesIn part (take (f .taken) bytes))
   pub output-is : f .output ≡ joined answerLine (answersOf (s .account) (linesIn part (take (f .taken) bytes)))
 
-went-nothing : (s : Session) (part bytes : List ℕ) → Holds s part → Went s part bytes (nothing s)
+went-nothing : (s : State) (part bytes : List ℕ) → Holds s part → Went s part bytes (nothing s)
 unfolding partAfter linesIn accountAfter answersOf
 went-nothing s part bytes h = record { holds = h; account-is = refl; output-is = refl }
 
-went-end : (s : Session) (part : List ℕ) (c : ℕ) (cs : List ℕ) (f : Feeding) → Holds s part → eqb c lineFeed ≡ true → Went (ended s) [] cs f → Went s part (c ∷ cs) (behind (answerLine (lineEnds s .answer)) f)
+went-end : (s : State) (part : List ℕ) (c : ℕ) (cs : List ℕ) (f : Feeding) → Holds s part → eqb c lineFeed ≡ true → Went (ended s) [] cs f → Went s part (c ∷ cs) (behind (answerLine (lineEnds s .answer)) f)
 unfolding partAfter linesIn accountAfter answersOf
 went-end s part c cs f h e w =
     record {
@@ -81,18 +81,18 @@ went-end s part c cs f h e w =
           (ap (λ r. answerLine (lineEnds s .answer) ++ r) (w .output-is) ∙ ap (λ (o : Outcome). answerLine (o .answer) ++ joined answerLine (answersOf (o .account) (linesIn [] (take (f .taken) cs)))) (ends-alike s part h));
     }
 
-went-kept : (s : Session) (part : List ℕ) (c : ℕ) (cs : List ℕ) (f : Feeding) → eqb c lineFeed ≡ false → kept s c .account ≡ s .account → Went (kept s c) (part ++ (c ∷ [])) cs f → Went s part (c ∷ cs) (behind [] f)
+went-kept : (s : State) (part : List ℕ) (c : ℕ) (cs : List ℕ) (f : Feeding) → eqb c lineFeed ≡ false → kept s c .account ≡ s .account → Went (kept s c) (part ++ (c ∷ [])) cs f → Went s part (c ∷ cs) (behind [] f)
 unfolding partAfter linesIn accountAfter answersOf
 went-kept s part c cs f e k w = record { holds = rw e (w .holds); account-is = rw (e, ← k) (w .account-is); output-is = rw (e, ← k) (w .output-is) }
 
-kept-account : (s : Session) (c : ℕ) → kept s c .account ≡ s .account
+kept-account : (s : State) (c : ℕ) → kept s c .account ≡ s .account
 kept-account s c = go (ltb (s .length) 31)
   where
     go : (b : Bool) → cond b (record { account = s .account; length = suc (s .length); line = set (s .line) (s .length) c }) s .account ≡ s .account
     go true = refl
     go false = refl
 
-pub went : (bytes : List ℕ) (room : ℕ) (s : Session) (part : List ℕ) → Holds s part → Went s part bytes (feeding room s bytes)
+pub went : (bytes : List ℕ) (room : ℕ) (s : State) (part : List ℕ) → Holds s part → Went s part bytes (feeding room s bytes)
 unfolding feeding
 went [] room s part h = went-nothing s part [] h
 went (c ∷ cs) room s part h =
@@ -107,7 +107,7 @@ pub stands-start : Stands [] [] fresh
 unfolding partAfter linesIn accountAfter answersOf
 stands-start = record { holds = holds-fresh; account-is = refl; out-is = refl }
 
-pub stands-on : (seen out : List ℕ) (s : Session) (room : ℕ) (bytes : List ℕ) → Stands seen out s → Stands (seen ++ take (feeding room s bytes .taken) bytes) (out ++ feeding room s bytes .output) (feeding room s bytes .session)
+pub stands-on : (seen out : List ℕ) (s : State) (room : ℕ) (bytes : List ℕ) → Stands seen out s → Stands (seen ++ take (feeding room s bytes .taken) bytes) (out ++ feeding room s bytes .output) (feeding room s bytes .state)
 stands-on seen out s room bytes w =
     let f = feeding room s bytes in
     let more = take (f .taken) bytes in
@@ -139,9 +139,9 @@ last-line (c ∷ cs) n = refl
 -- The end of the input: all that was written is what `bill` writes for all that was taken.
 pub record Ended (seen out : List ℕ) (f : Feeding) : Type 0 where
   pub out-is : out ++ f .output ≡ bill seen
-  pub account-is : f .session .account ≡ accountAfter newAccount (linesOf seen)
+  pub account-is : f .state .account ≡ accountAfter newAccount (linesOf seen)
 
-ended-none : (seen out : List ℕ) (s : Session) → Stands seen out s → s .length ≡ 0 → Ended seen out (nothing s)
+ended-none : (seen out : List ℕ) (s : State) → Stands seen out s → s .length ≡ 0 → Ended seen out (nothing s)
 unfolding bill
 ended-none seen out s w z =
     let count = w .holds .length-is in
@@ -151,7 +151,7 @@ ended-none seen out s w z =
       account-is = w .account-is ∙ ap (accountAfter newAccount) (sym lines);
     }
 
-ended-line : (seen out : List ℕ) (s : Session) (rest : Feeding) → Stands seen out s → (s .length ≡ 0 → ⊥) → rest ≡ nothing (ended s) → Ended seen out (behind (answerLine (lineEnds s .answer)) rest)
+ended-line : (seen out : List ℕ) (s : State) (rest : Feeding) → Stands seen out s → (s .length ≡ 0 → ⊥) → rest ≡ nothing (ended s) → Ended seen out (behind (answerLine (lineEnds s .answer)) rest)
 unfolding bill answersOf accountAfter
 ended-line seen out s rest w n e =
     let part = partAfter [] seen in
@@ -162,14 +162,14 @@ ended-line seen out s rest w n e =
     record {
       out-is =
           ap (λ (f : Feeding). out ++ (answerLine (lineEnds s .answer) ++ f .output)) e ∙ ap (λ o. o ++ (answerLine (lineEnds s .answer) ++ [])) (w .out-is) ∙ ap (λ (o : Outcome). joined answerLine (answersOf newAccount before) ++ (answerLine (o .answer) ++ [])) ends ∙ sym (joined-behind answerLine (answersOf newAccount before) (answersOf (accountAfter newAccount before) (part ∷ []))) ∙ ap (joined answerLine) (sym (answers-behind newAccount before (part ∷ []))) ∙ ap (λ ls. joined answerLine (answersOf newAccount ls)) (sym lines);
-      account-is = ap (λ (f : Feeding). f .session .account) e ∙ ap (λ (o : Outcome). o .account) ends ∙ sym (account-behind newAccount before (part ∷ [])) ∙ ap (accountAfter newAccount) (sym lines);
+      account-is = ap (λ (f : Feeding). f .state .account) e ∙ ap (λ (o : Outcome). o .account) ends ∙ sym (account-behind newAccount before (part ∷ [])) ∙ ap (accountAfter newAccount) (sym lines);
     }
 
-fed-none : (room : ℕ) (s : Session) → feeding room s [] ≡ nothing s
+fed-none : (room : ℕ) (s : State) → feeding room s [] ≡ nothing s
 unfolding feeding
 fed-none room s = refl
 
-pub stands-end : (seen out : List ℕ) (s : Session) (room : ℕ) → longestAnswer ≤ room → Stands seen out s → Ended seen out (finishing room s)
+pub stands-end : (seen out : List ℕ) (s : State) (room : ℕ) → longestAnswer ≤ room → Stands seen out s → Ended seen out (finishing room s)
 stands-end seen out s room r w = go (eqb (s .length) 0) refl
   where
     go : (b : Bool) → eqb (s .length) 0 ≡ b → Ended seen out (finishing room s)
@@ -178,27 +178,27 @@ stands-end seen out s room r w = go (eqb (s .length) 0) refl
         let n = eqb-false (s .length) 0 e in
         rw (finish-line room s n, feed-ends room s lineFeed [] refl r) (ended-line seen out s (feeding (room - length (answerLine (lineEnds s .answer))) (ended s) []) w n (fed-none (room - length (answerLine (lineEnds s .answer))) (ended s)))
 
-pub made-is : (seen out : List ℕ) (s : Session) → Stands seen out s → out ≡ made seen
+pub made-is : (seen out : List ℕ) (s : State) → Stands seen out s → out ≡ made seen
 unfolding made
 made-is seen out s w = w .out-is
 
--- A session that follows what was taken follows one more piece, as far as it was taken.
+-- A state that follows what was taken follows one more piece, as far as it was taken.
 pub follows-start : Follows [] fresh
 follows-start = rw (← made-is [] [] fresh stands-start) stands-start
 
-pub follows-on : (seen : List ℕ) (s : Session) (room : ℕ) (bytes : List ℕ) → Follows seen s → Follows (seen ++ take (feeding room s bytes .taken) bytes) (feeding room s bytes .session)
+pub follows-on : (seen : List ℕ) (s : State) (room : ℕ) (bytes : List ℕ) → Follows seen s → Follows (seen ++ take (feeding room s bytes .taken) bytes) (feeding room s bytes .state)
 follows-on seen s room bytes w =
     let f = feeding room s bytes in
     let next = stands-on seen (made seen) s room bytes w in
-    rw (← made-is (seen ++ take (f .taken) bytes) (made seen ++ f .output) (f .session) next) next
+    rw (← made-is (seen ++ take (f .taken) bytes) (made seen ++ f .output) (f .state) next) next
 
 -- Pieces of any sizes, cut anywhere, with any room: what they make, with what the end makes behind it, is what `bill` writes for all that was taken.
-stands-all : (pieces : List Piece) (seen out : List ℕ) (s : Session) → Stands seen out s → Stands (seen ++ takenOf s pieces) (out ++ writtenOf s pieces) (sessionAfter s pieces)
+stands-all : (pieces : List Piece) (seen out : List ℕ) (s : State) → Stands seen out s → Stands (seen ++ takenOf s pieces) (out ++ writtenOf s pieces) (stateAfter s pieces)
 stands-all [] seen out s w = rw (append-nil seen, append-nil out) w
 stands-all (piece ∷ pieces) seen out s w =
     let f = feeding (piece .room) s (piece .bytes) in
-    rw (← append-assoc seen (take (f .taken) (piece .bytes)) (takenOf (f .session) pieces), ← append-assoc out (f .output) (writtenOf (f .session) pieces))
-    (stands-all pieces (seen ++ take (f .taken) (piece .bytes)) (out ++ f .output) (f .session) (stands-on seen out s (piece .room) (piece .bytes) w))
+    rw (← append-assoc seen (take (f .taken) (piece .bytes)) (takenOf (f .state) pieces), ← append-assoc out (f .output) (writtenOf (f .state) pieces))
+    (stands-all pieces (seen ++ take (f .taken) (piece .bytes)) (out ++ f .output) (f .state) (stands-on seen out s (piece .room) (piece .bytes) w))
 
-pub in-pieces : (pieces : List Piece) (room : ℕ) → longestAnswer ≤ room → Ended (takenOf fresh pieces) (writtenOf fresh pieces) (finishing room (sessionAfter fresh pieces))
-in-pieces pieces room r = stands-end (takenOf fresh pieces) (writtenOf fresh pieces) (sessionAfter fresh pieces) room r (stands-all pieces [] [] fresh stands-start)
+pub in-pieces : (pieces : List Piece) (room : ℕ) → longestAnswer ≤ room → Ended (takenOf fresh pieces) (writtenOf fresh pieces) (finishing room (stateAfter fresh pieces))
+in-pieces pieces room r = stands-end (takenOf fresh pieces) (writtenOf fresh pieces) (stateAfter fresh pieces) room r (stands-all pieces [] [] fresh stands-start)

@@ -14,7 +14,7 @@ use Rattle.account.specs.Calls.{newAccount}
 use Rattle.wire.specs.Digits.{written}
 use Rattle.wire.specs.Answers.{answerLine, longestAnswer}
 use Rattle.wire.proofs.Writing.{written-behind}
-use Rattle.text.specs.declared.Session.{Session}
+use Rattle.text.specs.declared.State.{State}
 use Rattle.text.specs.Lines.{linesFrom, linesOf}
 use Rattle.text.specs.Output.{answersOf, accountAfter, bill}
 use Rattle.text.specs.Feeding.{fresh, feeding, finishing}
@@ -38,7 +38,7 @@ made-within input n =
     omega (arith, long)
 
 -- Where the work stands after so many bytes.
-pub record Working (input text : List ℕ) (writing : Bool) (out : List ℕ) (s : Session) (taken size : ℕ) : Type 0 where
+pub record Working (input text : List ℕ) (writing : Bool) (out : List ℕ) (s : State) (taken size : ℕ) : Type 0 where
   pub stands : Follows (take taken input) s
   pub size-is : size ≡ length (made (take taken input))
   pub out-is : out ≡ cond writing (written text 0 (made (take taken input))) text
@@ -59,13 +59,13 @@ written-more : (writing : Bool) (text one two xs ys : List ℕ) (n : ℕ) → le
 written-more true text one two xs ys n l e f = f ∙ ap (λ t. written t n ys) e ∙ ap (λ m. written (written text 0 xs) m ys) (sym l ∙ sym (zero-add (length xs))) ∙ sym (written-behind text 0 xs ys)
 written-more false text one two xs ys n l e f = f ∙ e
 
-pub working-on : (input text : List ℕ) (writing : Bool) (out out′ : List ℕ) (s : Session) (taken size room : ℕ) → Working input text writing out s taken size → out′ ≡ cond writing (written out size (feeding room s (drop taken input) .output)) out → Working input text writing out′ (feeding room s (drop taken input) .session) (taken + feeding room s (drop taken input) .taken) (size + length (feeding room s (drop taken input) .output))
+pub working-on : (input text : List ℕ) (writing : Bool) (out out′ : List ℕ) (s : State) (taken size room : ℕ) → Working input text writing out s taken size → out′ ≡ cond writing (written out size (feeding room s (drop taken input) .output)) out → Working input text writing out′ (feeding room s (drop taken input) .state) (taken + feeding room s (drop taken input) .taken) (size + length (feeding room s (drop taken input) .output))
 working-on input text writing out out′ s taken size room w e =
     let f = feeding room s (drop taken input) in
     let seen = take taken input in
     let more = take (f .taken) (drop taken input) in
     let next = stands-on seen (made seen) s room (drop taken input) (w .stands) in
-    let grown : made seen ++ f .output ≡ made (seen ++ more) = made-is (seen ++ more) (made seen ++ f .output) (f .session) next in
+    let grown : made seen ++ f .output ≡ made (seen ++ more) = made-is (seen ++ more) (made seen ++ f .output) (f .state) next in
     let done : made seen ++ f .output ≡ made (take (taken + f .taken) input) = grown ∙ ap made (sym (take-add taken (f .taken) input)) in
     record {
       stands = rw (← done, take-add taken (f .taken) input) next;
@@ -79,7 +79,7 @@ pub record Worked (input text : List ℕ) (writing : Bool) (out : List ℕ) (acc
   pub size-is : size ≡ length (bill input)
   pub out-is : out ≡ cond writing (written text 0 (bill input)) text
 
-pub working-end : (input text : List ℕ) (writing : Bool) (out out′ : List ℕ) (s : Session) (taken size room : ℕ) → longestAnswer ≤ room → length input ≤ taken → Working input text writing out s taken size → out′ ≡ cond writing (written out size (finishing room s .output)) out → Worked input text writing out′ (finishing room s .session .account) (size + length (finishing room s .output))
+pub working-end : (input text : List ℕ) (writing : Bool) (out out′ : List ℕ) (s : State) (taken size room : ℕ) → longestAnswer ≤ room → length input ≤ taken → Working input text writing out s taken size → out′ ≡ cond writing (written out size (finishing room s .output)) out → Worked input text writing out′ (finishing room s .state .account) (size + length (finishing room s .output))
 working-end input text writing out out′ s taken size room r h w e =
     let g = finishing room s in
     let all = take-all taken input h in

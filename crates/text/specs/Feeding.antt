@@ -7,7 +7,7 @@ use lib.ListN.{length, set, take, replicate}
 use Rattle.account.specs.declared.Outcome.{Outcome}
 use Rattle.account.specs.Calls.{newAccount}
 use Rattle.wire.specs.Answers.{lineFeed, answerLine, longestAnswer}
-use Rattle.text.specs.declared.Session.{Session}
+use Rattle.text.specs.declared.State.{State}
 use Rattle.text.specs.declared.Fed.{Fed}
 use Rattle.text.specs.Output.{lineOutcome}
 
@@ -15,36 +15,36 @@ use Rattle.text.specs.Output.{lineOutcome}
 abbrev pub keptMost : ℕ
 keptMost = 31
 
-abbrev pub fresh : Session
+abbrev pub fresh : State
 fresh = record { account = newAccount; length = 0; line = replicate keptMost 0 }
 
 -- The part of a line that came.
-abbrev pub lineOf : Session → List ℕ
+abbrev pub lineOf : State → List ℕ
 lineOf s = take (s .length) (s .line)
 
-abbrev pub kept : Session → ℕ → Session
+abbrev pub kept : State → ℕ → State
 kept s c = cond (ltb (s .length) keptMost) (record { account = s .account; length = suc (s .length); line = set (s .line) (s .length) c }) s
 
-abbrev pub lineEnds : Session → Outcome
+abbrev pub lineEnds : State → Outcome
 lineEnds s = lineOutcome (s .account) (lineOf s)
 
-abbrev pub ended : Session → Session
+abbrev pub ended : State → State
 ended s = record { account = lineEnds s .account; length = 0; line = s .line }
 
--- What a piece makes: the session behind it, what is written, how many bytes of the piece were taken.
+-- What a piece makes: the state behind it, what is written, how many bytes of the piece were taken.
 pub record Feeding : Type 0 where
-  pub session : Session
+  pub state : State
   pub output : List ℕ
   pub taken : ℕ
 
-abbrev pub nothing : Session → Feeding
-nothing s = record { session = s; output = []; taken = 0 }
+abbrev pub nothing : State → Feeding
+nothing s = record { state = s; output = []; taken = 0 }
 
 abbrev pub behind : List ℕ → Feeding → Feeding
-behind xs f = record { session = f .session; output = xs ++ f .output; taken = suc (f .taken) }
+behind xs f = record { state = f .state; output = xs ++ f .output; taken = suc (f .taken) }
 
 -- Byte by byte; before a line's end that the room left might not hold, it stops.
-unfoldable pub feeding : ℕ → Session → List ℕ → Feeding
+unfoldable pub feeding : ℕ → State → List ℕ → Feeding
 feeding room s [] = nothing s
 feeding room s (c ∷ cs) =
     cond (eqb c lineFeed)
@@ -52,8 +52,8 @@ feeding room s (c ∷ cs) =
     (behind [] (feeding room (kept s c) cs))
 
 abbrev pub fedOf : Feeding → Fed
-fedOf f = record { session = f .session; taken = f .taken; written = length (f .output) }
+fedOf f = record { state = f .state; taken = f .taken; written = length (f .output) }
 
 -- The end of the input ends a line that has begun, as an LF would.
-unfoldable pub finishing : ℕ → Session → Feeding
+unfoldable pub finishing : ℕ → State → Feeding
 finishing room s = cond (eqb (s .length) 0) (nothing s) (feeding room s (lineFeed ∷ []))

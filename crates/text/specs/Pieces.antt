@@ -11,7 +11,7 @@ use Rattle.account.specs.Calls.{newAccount}
 use Rattle.audit.specs.Book.{Book, prices}
 use Rattle.audit.specs.Claim.{start, run, finalVolume, unpaidOn}
 use Rattle.wire.specs.Answers.{lineFeed, answerLine}
-use Rattle.text.specs.declared.Session.{Session}
+use Rattle.text.specs.declared.State.{State}
 use Rattle.text.specs.Output.{answersOf, accountAfter, callsOf}
 use Rattle.text.specs.Feeding.{lineOf, feeding}
 
@@ -28,20 +28,20 @@ partAfter part (c ∷ cs) = cond (eqb c lineFeed) (partAfter [] cs) (partAfter (
 unfoldable pub made : List ℕ → List ℕ
 made came = joined answerLine (answersOf newAccount (linesIn [] came))
 
--- A session that keeps the first characters of a part of a line.
-pub record Holds (s : Session) (part : List ℕ) : Type 0 where
+-- A state that keeps the first characters of a part of a line.
+pub record Holds (s : State) (part : List ℕ) : Type 0 where
   pub line-is : lineOf s ≡ take 31 part
   pub length-is : s .length ≡ min (length part) 31
   pub line-long : length (s .line) ≡ 31
 
 -- Where feeding stands: what was taken, and what was written for it.
-pub record Stands (seen out : List ℕ) (s : Session) : Type 0 where
+pub record Stands (seen out : List ℕ) (s : State) : Type 0 where
   pub holds : Holds s (partAfter [] seen)
   pub account-is : s .account ≡ accountAfter newAccount (linesIn [] seen)
   pub out-is : out ≡ joined answerLine (answersOf newAccount (linesIn [] seen))
 
--- A session that stands behind what was taken, all that it makes written.
-abbrev pub Follows : List ℕ → Session → Type 0
+-- A state that stands behind what was taken, all that it makes written.
+abbrev pub Follows : List ℕ → State → Type 0
 Follows seen s = Stands seen (made seen) s
 
 -- A piece, and the room lent for what it makes.
@@ -49,19 +49,19 @@ pub record Piece : Type 0 where
   pub bytes : List ℕ
   pub room : ℕ
 
--- Pieces fed one after another: the session behind them, the bytes taken and the bytes written, each in order.
-abbrev pub sessionAfter : Session → List Piece → Session
-sessionAfter s [] = s
-sessionAfter s (piece ∷ pieces) = sessionAfter (feeding (piece .room) s (piece .bytes) .session) pieces
+-- Pieces fed one after another: the state behind them, the bytes taken and the bytes written, each in order.
+abbrev pub stateAfter : State → List Piece → State
+stateAfter s [] = s
+stateAfter s (piece ∷ pieces) = stateAfter (feeding (piece .room) s (piece .bytes) .state) pieces
 
-abbrev pub takenOf : Session → List Piece → List ℕ
+abbrev pub takenOf : State → List Piece → List ℕ
 takenOf s [] = []
 takenOf s (piece ∷ pieces) =
-    take (feeding (piece .room) s (piece .bytes) .taken) (piece .bytes) ++ takenOf (feeding (piece .room) s (piece .bytes) .session) pieces
+    take (feeding (piece .room) s (piece .bytes) .taken) (piece .bytes) ++ takenOf (feeding (piece .room) s (piece .bytes) .state) pieces
 
-abbrev pub writtenOf : Session → List Piece → List ℕ
+abbrev pub writtenOf : State → List Piece → List ℕ
 writtenOf s [] = []
-writtenOf s (piece ∷ pieces) = feeding (piece .room) s (piece .bytes) .output ++ writtenOf (feeding (piece .room) s (piece .bytes) .session) pieces
+writtenOf s (piece ∷ pieces) = feeding (piece .room) s (piece .bytes) .output ++ writtenOf (feeding (piece .room) s (piece .bytes) .state) pieces
 
 -- The book of the calls among lines.
 abbrev pub bookOf : List (List ℕ) → Book

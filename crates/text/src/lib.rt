@@ -22,15 +22,15 @@ use ledger::Ledger;
 use wire::Parsed;
 
 // What is kept between pieces: the account, and the first 31 characters of a line that has begun.
-pub struct Session {
+pub struct State {
     pub account: Account,
     pub length: usize,
     pub line: [u8; 31],
 }
 
-// The session behind a piece, the bytes of the piece that were taken and the bytes written.
+// The state behind a piece, the bytes of the piece that were taken and the bytes written.
 pub struct Fed {
-    pub session: Session,
+    pub state: State,
     pub taken: usize,
     pub written: usize,
 }
@@ -44,11 +44,11 @@ pub struct Billed {
 // No file is longer.
 const LONGEST_INPUT: usize = 281_474_976_710_656;
 
-impl Session {
-    pub fn new() -> Session
+impl State {
+    pub fn new() -> State
         ensures { λ r. ⌜ r ≡ fresh ⌝ }
     {
-        Session {
+        State {
             account: Account::new(),
             length: 0,
             line: [0; 31],
@@ -93,10 +93,10 @@ fn light_line(account: Account, line: Parsed, known: bool) -> Light
 }
 
 fn handed_back(account: Account, length: usize, line: [u8; 31], taken: usize, written: usize) -> Fed
-    ensures { λ r. ⌜ r ≡ record { session = record { account = account; length = length; line = line }; taken = taken; written = written } ⌝ }
+    ensures { λ r. ⌜ r ≡ record { state = record { account = account; length = length; line = line }; taken = taken; written = written } ⌝ }
 {
     Fed {
-        session: Session {
+        state: State {
             account,
             length,
             line,
@@ -107,26 +107,26 @@ fn handed_back(account: Account, length: usize, line: [u8; 31], taken: usize, wr
 }
 
 // Takes a piece of the input and fills out from its start. What is not taken for want of room is to be fed again.
-pub fn feed(session: Session, input: &[u8], out: &mut [u8]) -> Fed
-    ensures { λ r. ⌜ r ≡ fedOf (feeding (length (now (out .entry))) session (now (input .entry))) ⌝ }
-    ensures { λ _. ⌜ now (out .exit) ≡ written (now (out .entry)) 0 (feeding (length (now (out .entry))) session (now (input .entry)) .output) ⌝ }
+pub fn feed(state: State, input: &[u8], out: &mut [u8]) -> Fed
+    ensures { λ r. ⌜ r ≡ fedOf (feeding (length (now (out .entry))) state (now (input .entry))) ⌝ }
+    ensures { λ _. ⌜ now (out .exit) ≡ written (now (out .entry)) 0 (feeding (length (now (out .entry))) state (now (input .entry)) .output) ⌝ }
     ensures { λ r. ⌜ (r .taken ≤ length (now (input .entry))) × (r .written ≤ length (now (out .entry))) ⌝ }
 {
-    feed_as(session, input, out, false)
+    feed_as(state, input, out, false)
 }
 
-// The same, for a session that may be known to come from a new account.
-pub fn feed_as(session: Session, input: &[u8], out: &mut [u8], known: bool) -> Fed
-    requires { ⌜ (known ≡ true → Reached (session .account)) ⌝ }
-    ensures { λ r. ⌜ r ≡ fedOf (feeding (length (now (out .entry))) session (now (input .entry))) ⌝ }
-    ensures { λ _. ⌜ now (out .exit) ≡ written (now (out .entry)) 0 (feeding (length (now (out .entry))) session (now (input .entry)) .output) ⌝ }
+// The same, for a state that may be known to come from a new account.
+pub fn feed_as(state: State, input: &[u8], out: &mut [u8], known: bool) -> Fed
+    requires { ⌜ (known ≡ true → Reached (state .account)) ⌝ }
+    ensures { λ r. ⌜ r ≡ fedOf (feeding (length (now (out .entry))) state (now (input .entry))) ⌝ }
+    ensures { λ _. ⌜ now (out .exit) ≡ written (now (out .entry)) 0 (feeding (length (now (out .entry))) state (now (input .entry)) .output) ⌝ }
     ensures { λ r. ⌜ (r .taken ≤ length (now (input .entry))) × (r .written ≤ length (now (out .entry))) ⌝ }
-    ensures { λ r. ⌜ (known ≡ true → Reached (r .session .account)) ⌝ }
+    ensures { λ r. ⌜ (known ≡ true → Reached (r .state .account)) ⌝ }
 {
     let table = wire::digit_table();
-    let mut account = session.account;
-    let mut length = session.length;
-    let mut line = session.line;
+    let mut account = state.account;
+    let mut length = state.length;
+    let mut line = state.line;
     let mut taken: usize = 0;
     let mut written: usize = 0;
     while taken < input.len() {
@@ -168,30 +168,30 @@ fn shown_length(length: usize) -> usize
 }
 
 // The end of the input: ends a line that has begun.
-pub fn finish(session: Session, out: &mut [u8]) -> Fed
-    ensures { λ r. ⌜ r ≡ fedOf (finishing (length (now (out .entry))) session) ⌝ }
-    ensures { λ _. ⌜ now (out .exit) ≡ written (now (out .entry)) 0 (finishing (length (now (out .entry))) session .output) ⌝ }
+pub fn finish(state: State, out: &mut [u8]) -> Fed
+    ensures { λ r. ⌜ r ≡ fedOf (finishing (length (now (out .entry))) state) ⌝ }
+    ensures { λ _. ⌜ now (out .exit) ≡ written (now (out .entry)) 0 (finishing (length (now (out .entry))) state .output) ⌝ }
     ensures { λ r. ⌜ r .written ≤ length (now (out .entry)) ⌝ }
 {
-    finish_as(session, out, false)
+    finish_as(state, out, false)
 }
 
-// The same, for a session that may be known to come from a new account.
-pub fn finish_as(session: Session, out: &mut [u8], known: bool) -> Fed
-    requires { ⌜ (known ≡ true → Reached (session .account)) ⌝ }
-    ensures { λ r. ⌜ r ≡ fedOf (finishing (length (now (out .entry))) session) ⌝ }
-    ensures { λ _. ⌜ now (out .exit) ≡ written (now (out .entry)) 0 (finishing (length (now (out .entry))) session .output) ⌝ }
+// The same, for a state that may be known to come from a new account.
+pub fn finish_as(state: State, out: &mut [u8], known: bool) -> Fed
+    requires { ⌜ (known ≡ true → Reached (state .account)) ⌝ }
+    ensures { λ r. ⌜ r ≡ fedOf (finishing (length (now (out .entry))) state) ⌝ }
+    ensures { λ _. ⌜ now (out .exit) ≡ written (now (out .entry)) 0 (finishing (length (now (out .entry))) state .output) ⌝ }
     ensures { λ r. ⌜ r .written ≤ length (now (out .entry)) ⌝ }
 {
-    if session.length == 0 {
+    if state.length == 0 {
         return Fed {
-            session,
+            state,
             taken: 0,
             written: 0,
         };
     }
     let end = [10u8; 1];
-    feed_as(session, &end, out, known)
+    feed_as(state, &end, out, known)
 }
 
 // The notices of an account's open items, and their length; where out is too short for it, nothing is written.
@@ -249,23 +249,23 @@ fn work_input(input: &[u8], out: &mut [u8], writing: bool) -> Billed
     ensures { λ r. ⌜ r ≡ record { account = accountAfter newAccount (linesOf (now (input .entry))); size = length (bill (now (input .entry))) } ⌝ }
     ensures { λ _. ⌜ now (out .exit) ≡ cond writing (written (now (out .entry)) 0 (bill (now (input .entry)))) (now (out .entry)) ⌝ }
 {
-    let mut session = Session::new();
+    let mut state = State::new();
     let mut space = [0u8; 4096];
     let mut taken: usize = 0;
     let mut size: usize = 0;
     while taken < input.len() {
-        let fed = feed_as(session, &input[taken..], &mut space, true);
+        let fed = feed_as(state, &input[taken..], &mut space, true);
         let written = fed.written;
         put_part(&space[..written], out, size, writing);
-        session = fed.session;
+        state = fed.state;
         taken += fed.taken;
         size += written;
     }
-    let last = finish_as(session, &mut space, true);
+    let last = finish_as(state, &mut space, true);
     let written = last.written;
     put_part(&space[..written], out, size, writing);
     size += written;
-    let end = last.session;
+    let end = last.state;
     let account = end.account;
     Billed { account, size }
 }

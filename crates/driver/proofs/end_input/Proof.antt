@@ -26,7 +26,7 @@ print-requires : tie.Need-print-requires
 print-requires c κs = search needs
 
 returns : tie.Need-returns
-returns c = λ seen w. ap (λ (f : Fed). f .session .account) (c .before .before .before .before .finish-as .ensures .0) ∙ stands-end seen (made seen) (c .before .before .before .before .before .before .args .session) 117 (omega arith) w .account-is
+returns c = λ seen w. ap (λ (f : Fed). f .state .account) (c .before .before .before .before .finish-as .ensures .0) ∙ stands-end seen (made seen) (c .before .before .before .before .before .before .args .state) 117 (omega arith) w .account-is
 
 pub end-input-spec : {M : Type 1} → statement M
 end-input-spec =

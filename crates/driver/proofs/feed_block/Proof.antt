@@ -16,10 +16,10 @@ use Rattle.driver.proofs.feed_block.Statement.{statement}
 use Rattle.driver.proofs.feed_block.Tie as tie
 
 abbrev Inv-loop : tie.InvT-loop
-Inv-loop block is-printing session₀ out₀ at₀ session out at = (at ≤ length block) × (length out ≡ 65536) × Reached (session .account) × ((seen : List ℕ) → Follows seen session₀ → Follows (seen ++ take at block) session)
+Inv-loop block is-printing state₀ out₀ at₀ state out at = (at ≤ length block) × (length out ≡ 65536) × Reached (state .account) × ((seen : List ℕ) → Follows seen state₀ → Follows (seen ++ take at block) state)
 
 abbrev μ-loop : tie.MeasureT-loop
-μ-loop block is-printing session₀ out₀ at₀ session out at = length block - at
+μ-loop block is-printing state₀ out₀ at₀ state out at = length block - at
 
 out-length : (c : tie.After-feed-as Inv-loop μ-loop) → length (c .feed-as .last .1 .1 .0) ≡ 65536
 out-length c = search needs
@@ -38,17 +38,17 @@ fed-bounds c = (rw (← part-long c) (c .feed-as .ensures .1 .1 .0 .0), rw (← 
 
 -- some byte was taken
 fed-some : (c : tie.After-feed-as Inv-loop μ-loop) → 1 ≤ c .feed-as .result .taken
-fed-some c = rw (ap (λ (f : Fed). f .taken) (c .feed-as .ensures .0)) (taken-some (length (c .before .before .before .before .loop .out)) (c .before .before .before .before .loop .session) (part c) (rw (c .before .before .before .before .loop .inv .1) (omega arith)) (rw (part-long c) (omega arith)))
+fed-some c = rw (ap (λ (f : Fed). f .taken) (c .feed-as .ensures .0)) (taken-some (length (c .before .before .before .before .loop .out)) (c .before .before .before .before .loop .state) (part c) (rw (c .before .before .before .before .loop .inv .1) (omega arith)) (rw (part-long c) (omega arith)))
 
--- the session follows the block as far as it was fed
-fed-on : (c : tie.After-feed-as Inv-loop μ-loop) (seen : List ℕ) → Follows seen (c .before .before .before .before .before .before .before .args .session) → Follows (seen ++ take (c .before .before .before .before .loop .at + c .feed-as .result .taken) (c .before .before .before .before .before .before .before .args .block .now)) (c .feed-as .result .session)
+-- the state follows the block as far as it was fed
+fed-on : (c : tie.After-feed-as Inv-loop μ-loop) (seen : List ℕ) → Follows seen (c .before .before .before .before .before .before .before .args .state) → Follows (seen ++ take (c .before .before .before .before .loop .at + c .feed-as .result .taken) (c .before .before .before .before .before .before .before .args .block .now)) (c .feed-as .result .state)
 fed-on c seen w =
     let block = c .before .before .before .before .before .before .before .args .block .now in
     let at = c .before .before .before .before .loop .at in
     let long = length-drop at block in
     let whole-part = take-all (length block - at) (drop at block) (omega (arith, long)) in
-    let f = feeding (length (c .before .before .before .before .loop .out)) (c .before .before .before .before .loop .session) (part c) in
-    let next = follows-on (seen ++ take at block) (c .before .before .before .before .loop .session) (length (c .before .before .before .before .loop .out)) (part c) (c .before .before .before .before .loop .inv .3 seen w) in
+    let f = feeding (length (c .before .before .before .before .loop .out)) (c .before .before .before .before .loop .state) (part c) in
+    let next = follows-on (seen ++ take at block) (c .before .before .before .before .loop .state) (length (c .before .before .before .before .loop .out)) (part c) (c .before .before .before .before .loop .inv .3 seen w) in
     let bytes : (seen ++ take at block) ++ take (f .taken) (part c) ≡ seen ++ take (at + f .taken) block = append-assoc seen (take at block) (take (f .taken) (part c)) ∙ ap (λ xs. seen ++ (take at block ++ take (f .taken) xs)) whole-part ∙ ap (λ xs. seen ++ xs) (sym (take-add at (f .taken) block)) in
     rw (c .feed-as .ensures .0, ← bytes) next
 

@@ -7,10 +7,10 @@ use Rattle.driver.proofs.feed_input.Statement.{statement}
 use Rattle.driver.proofs.feed_input.Tie as tie
 
 abbrev Inv-loop : tie.InvT-loop
-Inv-loop is-printing session₀ block₀ turns₀ t8 session block turns = (length block ≡ 65536) × Reached (session .account)
+Inv-loop is-printing state₀ block₀ turns₀ t8 state block turns = (length block ≡ 65536) × Reached (state .account)
 
 abbrev μ-loop : tie.MeasureT-loop
-μ-loop is-printing session₀ block₀ turns₀ t8 session block turns = turns
+μ-loop is-printing state₀ block₀ turns₀ t8 state block turns = turns
 
 new-requires : tie.Need-new-requires Inv-loop μ-loop
 new-requires c κs = search needs

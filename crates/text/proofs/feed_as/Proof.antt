@@ -12,19 +12,19 @@ use Rattle.account.specs.declared.Outcome.{Outcome}
 use Rattle.account.specs.Calls.{quiet}
 use Rattle.account.specs.Outcomes.{accepted}
 use Rattle.wire.specs.Frames.{parsed}
-use Rattle.text.specs.declared.Session.{Session}
+use Rattle.text.specs.declared.State.{State}
 use Rattle.text.specs.Output.{parsedOutcome}
 use Rattle.text.specs.Feeding.{lineEnds, Feeding, feeding}
 use Rattle.text.specs.Reached.{Reached}
 use Rattle.text.proofs.Reached.{reached-whole, reached-line}
-use Rattle.text.proofs.Feeding.{session, Ahead, ahead-start, ahead-done, ahead-text, take-min, kept-within, kept-full, line-ended, line-waits, byte-kept, input-ended}
+use Rattle.text.proofs.Feeding.{state, Ahead, ahead-start, ahead-done, ahead-text, take-min, kept-within, kept-full, line-ended, line-waits, byte-kept, input-ended}
 use Rattle.text.proofs.feed_as.Statement.{statement}
 use Rattle.text.proofs.feed_as.Tie as tie
 
 abbrev Inv-loop : tie.InvT-loop
 Inv-loop input out₀ known table account₀ length₀ line₀ taken₀ written₀ out account kept-length line taken written =
     (taken ≤ length input) × (written ≤ length out) × (length out ≡ length out₀) × (length line ≡ 31) ×
-    Ahead (feeding (length out₀) (session account₀ length₀ line₀) input) out₀ taken written (feeding (length out₀ - written) (session account kept-length line) (drop taken input)) out × (known ≡ true → Reached account)
+    Ahead (feeding (length out₀) (state account₀ length₀ line₀) input) out₀ taken written (feeding (length out₀ - written) (state account kept-length line) (drop taken input)) out × (known ≡ true → Reached account)
 
 abbrev μ-loop : tie.MeasureT-loop
 μ-loop input out₀ known table account₀ length₀ line₀ taken₀ written₀ out account kept-length line taken written = length input - taken
@@ -40,10 +40,10 @@ abbrev bytes : At → List ℕ
 bytes l = l .before .before .before .before .before .before .args .input .now
 
 abbrev made : At → Feeding
-made l = feeding (length (text l)) (l .before .before .before .before .before .before .args .session) (bytes l)
+made l = feeding (length (text l)) (l .before .before .before .before .before .before .args .state) (bytes l)
 
-abbrev stands : At → Session
-stands l = session (l .loop .account) (l .loop .length) (l .loop .line)
+abbrev stands : At → State
+stands l = state (l .loop .account) (l .loop .length) (l .loop .line)
 
 abbrev next : At → ℕ
 next l = getD (bytes l) (l .loop .taken) 0
@@ -82,7 +82,7 @@ digit-table-requires c κs = tt
 
 loop-holds : tie.Need-loop-holds Inv-loop μ-loop
 loop-holds c = let size = length (c .before .before .before .before .before .args .out .now) in
-    (omega arith, omega arith, refl, search needs, rw (sub-zero size) (ahead-start (feeding size (c .before .before .before .before .before .args .session) (c .before .before .before .before .before .args .input .now)) (c .before .before .before .before .before .args .out .now)), c .before .before .before .before .before .pre)
+    (omega arith, omega arith, refl, search needs, rw (sub-zero size) (ahead-start (feeding size (c .before .before .before .before .before .args .state) (c .before .before .before .before .before .args .input .now)) (c .before .before .before .before .before .args .out .now)), c .before .before .before .before .before .pre)
 
 shared-slice-read-character : tie.Need-shared-slice-read-character Inv-loop μ-loop
 shared-slice-read-character c = omega arith
@@ -186,7 +186,7 @@ loop-again-3 c = let l = c .before .before .before .before in (
   omega arith,
   l .loop .inv .2,
   length-set (l .loop .line) (l .loop .length) (next l) ∙ l .loop .inv .3,
-  byte-kept (made l) (text l) (l .loop .taken) (l .loop .written) (length (text l)) (stands l) (bytes l) (l .loop .out) (l .loop .inv .4) (omega arith) (c .before .if1 .left) (session (l .loop .account) (l .loop .length + 1) (set (l .loop .line) (l .loop .length) (next l))) (kept-within (l .loop .account) (l .loop .length) (l .loop .line) (next l) (omega (arith, c .if4 .taken))),
+  byte-kept (made l) (text l) (l .loop .taken) (l .loop .written) (length (text l)) (stands l) (bytes l) (l .loop .out) (l .loop .inv .4) (omega arith) (c .before .if1 .left) (state (l .loop .account) (l .loop .length + 1) (set (l .loop .line) (l .loop .length) (next l))) (kept-within (l .loop .account) (l .loop .length) (l .loop .line) (next l) (omega (arith, c .if4 .taken))),
   l .loop .inv .5,
 )
 

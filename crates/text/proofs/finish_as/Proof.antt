@@ -7,7 +7,7 @@ use Rattle.text.proofs.finish_as.Statement.{statement}
 use Rattle.text.proofs.finish_as.Tie as tie
 
 returns : tie.Need-returns
-returns c = rw (finish-none (length (c .before .before .before .args .out .now)) (c .before .before .before .args .session) (c .if1 .taken)) (refl, (refl, omega arith))
+returns c = rw (finish-none (length (c .before .before .before .args .out .now)) (c .before .before .before .args .state) (c .if1 .taken)) (refl, (refl, omega arith))
 
 slice-aggregate-feed : tie.Need-slice-aggregate-feed-as
 slice-aggregate-feed c = search needs
@@ -19,7 +19,7 @@ same-length : tie.Need-same-length
 same-length c = search needs
 
 returns-2 : tie.Need-returns-2
-returns-2 c = rw (finish-line (length (c .before .before .before .before .before .before .before .before .args .out .now)) (c .before .before .before .before .before .before .before .before .args .session) (c .before .before .before .before .before .if1 .left)) (c .before .before .feed-as .ensures .0, (c .before .before .feed-as .ensures .1 .0, c .before .before .feed-as .ensures .1 .1 .0 .1))
+returns-2 c = rw (finish-line (length (c .before .before .before .before .before .before .before .before .args .out .now)) (c .before .before .before .before .before .before .before .before .args .state) (c .before .before .before .before .before .if1 .left)) (c .before .before .feed-as .ensures .0, (c .before .before .feed-as .ensures .1 .0, c .before .before .feed-as .ensures .1 .1 .0 .1))
 
 pub finish-as-spec : {M : Type 1} → statement M
 finish-as-spec = tie.close (tie.spec returns slice-aggregate-feed feed-requires same-length returns-2)

@@ -17,22 +17,22 @@ use Rattle.text.proofs.work_input.Statement.{statement}
 use Rattle.text.proofs.work_input.Tie as tie
 
 abbrev Inv-loop : tie.InvT-loop
-Inv-loop input out₀ writing session₀ space₀ taken₀ size₀ out session space taken size =
-    (taken ≤ length input) × (length out ≡ length out₀) × (length space ≡ 4096) × (size ≤ 4096 * taken) × Working input out₀ writing out session taken size
+Inv-loop input out₀ writing state₀ space₀ taken₀ size₀ out state space taken size =
+    (taken ≤ length input) × (length out ≡ length out₀) × (length space ≡ 4096) × (size ≤ 4096 * taken) × Working input out₀ writing out state taken size
 
 abbrev μ-loop : tie.MeasureT-loop
-μ-loop input out₀ writing session₀ space₀ taken₀ size₀ out session space taken size = length input - taken
+μ-loop input out₀ writing state₀ space₀ taken₀ size₀ out state space taken size = length input - taken
 
 -- what the rest of the input makes
 abbrev fed : tie.After-feed-as Inv-loop μ-loop → Feeding
-fed c = feeding 4096 (c .before .before .before .before .loop .session) (drop (c .before .before .before .before .loop .taken) (c .before .before .before .before .before .before .before .before .args .input .now))
+fed c = feeding 4096 (c .before .before .before .before .loop .state) (drop (c .before .before .before .before .loop .taken) (c .before .before .before .before .before .before .before .before .args .input .now))
 
-same : (c : tie.After-feed-as Inv-loop μ-loop) → feeding (length (c .before .before .before .before .loop .space)) (c .before .before .before .before .loop .session) (take (length (c .before .before .before .before .before .before .before .before .args .input .now) - c .before .before .before .before .loop .taken) (drop (c .before .before .before .before .loop .taken) (c .before .before .before .before .before .before .before .before .args .input .now))) ≡ fed c
+same : (c : tie.After-feed-as Inv-loop μ-loop) → feeding (length (c .before .before .before .before .loop .space)) (c .before .before .before .before .loop .state) (take (length (c .before .before .before .before .before .before .before .before .args .input .now) - c .before .before .before .before .loop .taken) (drop (c .before .before .before .before .loop .taken) (c .before .before .before .before .before .before .before .before .args .input .now))) ≡ fed c
 same c =
     let input = c .before .before .before .before .before .before .before .before .args .input .now in
     let taken = c .before .before .before .before .loop .taken in
     let long = length-drop taken input in
-    ap (λ n. feeding n (c .before .before .before .before .loop .session) (take (length input - taken) (drop taken input))) (c .before .before .before .before .loop .inv .2) ∙ ap (feeding 4096 (c .before .before .before .before .loop .session)) (take-all (length input - taken) (drop taken input) (omega (arith, long)))
+    ap (λ n. feeding n (c .before .before .before .before .loop .state) (take (length input - taken) (drop taken input))) (c .before .before .before .before .loop .inv .2) ∙ ap (feeding 4096 (c .before .before .before .before .loop .state)) (take-all (length input - taken) (drop taken input) (omega (arith, long)))
 
 fed-is : (c : tie.After-feed-as Inv-loop μ-loop) → c .feed-as .result ≡ fedOf (fed c)
 fed-is c = c .feed-as .ensures .0 ∙ ap fedOf (same c)
@@ -55,7 +55,7 @@ taken-more : (c : tie.After-feed-as Inv-loop μ-loop) → 1 ≤ c .feed-as .resu
 taken-more c =
     let input = c .before .before .before .before .before .before .before .before .args .input .now in
     let long = length-drop (c .before .before .before .before .loop .taken) input in
-    rw (ap (λ (f : Fed). f .taken) (fed-is c)) (taken-some 4096 (c .before .before .before .before .loop .session) (drop (c .before .before .before .before .loop .taken) input) (omega arith) (omega (arith, long)))
+    rw (ap (λ (f : Fed). f .taken) (fed-is c)) (taken-some 4096 (c .before .before .before .before .loop .state) (drop (c .before .before .before .before .loop .taken) input) (omega arith) (omega (arith, long)))
 
 -- what was written of it stands in the space lent
 part-is : (c : tie.After-feed-as Inv-loop μ-loop) → take (c .feed-as .result .written) (c .feed-as .last .1 .1 .0) ≡ fed c .output
@@ -64,15 +64,15 @@ part-is c =
     ap (λ n. take n (c .feed-as .last .1 .1 .0)) count ∙ ap (take (length (fed c .output))) (c .feed-as .ensures .1 .0 ∙ ap (λ (f : Feeding). written (c .before .before .before .before .loop .space) 0 (f .output)) (same c)) ∙ shown-part (c .before .before .before .before .loop .space) (fed c .output) (omega (arith, count, written-most c, c .before .before .before .before .loop .inv .2))
 
 -- the work behind this piece
-next : (c : tie.After-feed-as Inv-loop μ-loop) (out : List ℕ) → out ≡ cond (c .before .before .before .before .before .before .before .before .args .writing) (written (c .before .before .before .before .loop .out) (c .before .before .before .before .loop .size) (fed c .output)) (c .before .before .before .before .loop .out) → Working (c .before .before .before .before .before .before .before .before .args .input .now) (c .before .before .before .before .before .before .before .before .args .out .now) (c .before .before .before .before .before .before .before .before .args .writing) out (fed c .session) (c .before .before .before .before .loop .taken + fed c .taken) (c .before .before .before .before .loop .size + length (fed c .output))
-next c out e = working-on (c .before .before .before .before .before .before .before .before .args .input .now) (c .before .before .before .before .before .before .before .before .args .out .now) (c .before .before .before .before .before .before .before .before .args .writing) (c .before .before .before .before .loop .out) out (c .before .before .before .before .loop .session) (c .before .before .before .before .loop .taken) (c .before .before .before .before .loop .size) 4096 (c .before .before .before .before .loop .inv .4) e
+next : (c : tie.After-feed-as Inv-loop μ-loop) (out : List ℕ) → out ≡ cond (c .before .before .before .before .before .before .before .before .args .writing) (written (c .before .before .before .before .loop .out) (c .before .before .before .before .loop .size) (fed c .output)) (c .before .before .before .before .loop .out) → Working (c .before .before .before .before .before .before .before .before .args .input .now) (c .before .before .before .before .before .before .before .before .args .out .now) (c .before .before .before .before .before .before .before .before .args .writing) out (fed c .state) (c .before .before .before .before .loop .taken + fed c .taken) (c .before .before .before .before .loop .size + length (fed c .output))
+next c out e = working-on (c .before .before .before .before .before .before .before .before .args .input .now) (c .before .before .before .before .before .before .before .before .args .out .now) (c .before .before .before .before .before .before .before .before .args .writing) (c .before .before .before .before .loop .out) out (c .before .before .before .before .loop .state) (c .before .before .before .before .loop .taken) (c .before .before .before .before .loop .size) 4096 (c .before .before .before .before .loop .inv .4) e
 
 -- the end of the input
 abbrev last : tie.After-finish-as Inv-loop μ-loop → Feeding
-last c = finishing 4096 (c .before .before .before .loop .session)
+last c = finishing 4096 (c .before .before .before .loop .state)
 
 last-is : (c : tie.After-finish-as Inv-loop μ-loop) → c .finish-as .result ≡ fedOf (last c)
-last-is c = c .finish-as .ensures .0 ∙ ap (λ n. fedOf (finishing n (c .before .before .before .loop .session))) (c .before .before .before .loop .inv .2)
+last-is c = c .finish-as .ensures .0 ∙ ap (λ n. fedOf (finishing n (c .before .before .before .loop .state))) (c .before .before .before .loop .inv .2)
 
 last-long : (c : tie.After-finish-as Inv-loop μ-loop) → length (c .finish-as .last .1 .0) ≡ 4096
 last-long c = search needs
@@ -83,10 +83,10 @@ last-most c = rw (← c .before .before .before .loop .inv .2) (c .finish-as .en
 last-part : (c : tie.After-finish-as Inv-loop μ-loop) → take (c .finish-as .result .written) (c .finish-as .last .1 .0) ≡ last c .output
 last-part c =
     let count : c .finish-as .result .written ≡ length (last c .output) = ap (λ (f : Fed). f .written) (last-is c) in
-    ap (λ n. take n (c .finish-as .last .1 .0)) count ∙ ap (take (length (last c .output))) (c .finish-as .ensures .1 .0 ∙ ap (λ n. written (c .before .before .before .loop .space) 0 (finishing n (c .before .before .before .loop .session) .output)) (c .before .before .before .loop .inv .2)) ∙ shown-part (c .before .before .before .loop .space) (last c .output) (omega (arith, count, last-most c, c .before .before .before .loop .inv .2))
+    ap (λ n. take n (c .finish-as .last .1 .0)) count ∙ ap (take (length (last c .output))) (c .finish-as .ensures .1 .0 ∙ ap (λ n. written (c .before .before .before .loop .space) 0 (finishing n (c .before .before .before .loop .state) .output)) (c .before .before .before .loop .inv .2)) ∙ shown-part (c .before .before .before .loop .space) (last c .output) (omega (arith, count, last-most c, c .before .before .before .loop .inv .2))
 
-done : (c : tie.After-finish-as Inv-loop μ-loop) (out : List ℕ) → out ≡ cond (c .before .before .before .before .before .before .before .args .writing) (written (c .before .before .before .loop .out) (c .before .before .before .loop .size) (last c .output)) (c .before .before .before .loop .out) → Worked (c .before .before .before .before .before .before .before .args .input .now) (c .before .before .before .before .before .before .before .args .out .now) (c .before .before .before .before .before .before .before .args .writing) out (last c .session .account) (c .before .before .before .loop .size + length (last c .output))
-done c out e = working-end (c .before .before .before .before .before .before .before .args .input .now) (c .before .before .before .before .before .before .before .args .out .now) (c .before .before .before .before .before .before .before .args .writing) (c .before .before .before .loop .out) out (c .before .before .before .loop .session) (c .before .before .before .loop .taken) (c .before .before .before .loop .size) 4096 (omega arith) (omega arith) (c .before .before .before .loop .inv .4) e
+done : (c : tie.After-finish-as Inv-loop μ-loop) (out : List ℕ) → out ≡ cond (c .before .before .before .before .before .before .before .args .writing) (written (c .before .before .before .loop .out) (c .before .before .before .loop .size) (last c .output)) (c .before .before .before .loop .out) → Worked (c .before .before .before .before .before .before .before .args .input .now) (c .before .before .before .before .before .before .before .args .out .now) (c .before .before .before .before .before .before .before .args .writing) out (last c .state .account) (c .before .before .before .loop .size + length (last c .output))
+done c out e = working-end (c .before .before .before .before .before .before .before .args .input .now) (c .before .before .before .before .before .before .before .args .out .now) (c .before .before .before .before .before .before .before .args .writing) (c .before .before .before .loop .out) out (c .before .before .before .loop .state) (c .before .before .before .loop .taken) (c .before .before .before .loop .size) 4096 (omega arith) (omega arith) (c .before .before .before .loop .inv .4) e
 
 room : (c : tie.After-feed-as Inv-loop μ-loop) → c .before .before .before .before .before .before .before .before .args .writing ≡ true → c .before .before .before .before .loop .size + length (take (c .feed-as .result .written) (c .feed-as .last .1 .1 .0)) ≤ length (c .before .before .before .before .loop .out)
 room c e =
@@ -123,7 +123,7 @@ slice-aggregate-feed : tie.Need-slice-aggregate-feed-as Inv-loop μ-loop
 slice-aggregate-feed c = sym (c .before .before .before .loop .inv .2)
 
 feed-requires : tie.Need-feed-as-requires Inv-loop μ-loop
-feed-requires c κs = λ _. reached-lines (c .before .before .before .loop .session .account) (linesIn [] (take (c .before .before .before .loop .taken) (c .before .before .before .before .before .before .before .args .input .now))) (c .before .before .before .loop .inv .4 .stands .account-is)
+feed-requires c κs = λ _. reached-lines (c .before .before .before .loop .state .account) (linesIn [] (take (c .before .before .before .loop .taken) (c .before .before .before .before .before .before .before .args .input .now))) (c .before .before .before .loop .inv .4 .stands .account-is)
 
 array-share-prefix-space : tie.Need-array-share-prefix-space Inv-loop μ-loop
 array-share-prefix-space c = rw (space-long (c .before)) (written-most (c .before))
@@ -156,7 +156,7 @@ slice-aggregate-finish : tie.Need-slice-aggregate-finish-as Inv-loop μ-loop
 slice-aggregate-finish c = sym (c .before .before .loop .inv .2)
 
 finish-requires : tie.Need-finish-as-requires Inv-loop μ-loop
-finish-requires c κs = λ _. reached-lines (c .before .before .loop .session .account) (linesIn [] (take (c .before .before .loop .taken) (c .before .before .before .before .before .before .args .input .now))) (c .before .before .loop .inv .4 .stands .account-is)
+finish-requires c κs = λ _. reached-lines (c .before .before .loop .state .account) (linesIn [] (take (c .before .before .loop .taken) (c .before .before .before .before .before .before .args .input .now))) (c .before .before .loop .inv .4 .stands .account-is)
 
 array-share-prefix-space-2 : tie.Need-array-share-prefix-space-2 Inv-loop μ-loop
 array-share-prefix-space-2 c = rw (last-long (c .before)) (last-most (c .before))

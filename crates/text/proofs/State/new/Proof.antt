@@ -1,7 +1,7 @@
 use mathlib.Core.Path.{refl}
 use borrow.Author.Needs.{needs}
-use Rattle.text.proofs.Session.new.Statement.{statement}
-use Rattle.text.proofs.Session.new.Tie as tie
+use Rattle.text.proofs.State.new.Statement.{statement}
+use Rattle.text.proofs.State.new.Tie as tie
 
 new-requires : tie.Need-new-requires
 new-requires c κs = search needs
