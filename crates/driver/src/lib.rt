@@ -51,10 +51,7 @@ fn feed_block(state: State, block: &[u8], is_printing: bool) -> Run
             };
         }
     }
-    Run {
-        state,
-        sound: true,
-    }
+    Run { state, sound: true }
 }
 
 // The end of the input.

@@ -1,14 +1,14 @@
 -- A net by its sign. Assumes nothing.
 use mathlib.Core.Path.{_≡_, refl, ap}
 use mathlib.Core.Bool.{true, false, true≢false}
-use Prim.Native.Nat.{suc}
+use Prim.Native.Nat.{suc, _≤_}
 use native.Mathlib.Nat.{not-suc-le-zero, zero-add}
 use native.Mathlib.Omega.{arith}
 use lib.Dec.{T}
 use lib.IntN.{ℤ, pos, negsuc, natAbs, _-ℤ_}
 use lib.Signed.{ltZ, nonNeg}
-use mir.Syntax.{w32, w64}
-use mir.Val.{Fits, SFits}
+use mir.Syntax.{w32}
+use mir.Val.{SFits}
 use borrow.Author.Tests.{ltb-true}
 use Rattle.ledger.specs.Posting.{chargeOf, creditOf}
 
@@ -34,6 +34,6 @@ pub turned : (net : ℤ) → ltZ net (pos 0) ≡ true → pos 0 -ℤ net ≡ pos
 turned (pos n) e = absurd (not-suc-le-zero (ltb-true n 0 e))
 turned (negsuc n) e = ap pos (zero-add (suc n))
 
-pub magnitude-fits : (net : ℤ) → SFits w32 net → Fits w64 (natAbs net)
-magnitude-fits (pos n) f = record { fits = omega (arith, f .sfits) }
-magnitude-fits (negsuc n) f = record { fits = omega (arith, f .sfits) }
+pub magnitude-most : (net : ℤ) → SFits w32 net → natAbs net ≤ 2147483648
+magnitude-most (pos n) f = omega (arith, f .sfits)
+magnitude-most (negsuc n) f = omega (arith, f .sfits)

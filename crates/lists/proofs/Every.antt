@@ -35,6 +35,9 @@ module _ {A : Type 0} (test : A → Bool) where
   true-every [] e = refl
   true-every (x ∷ xs) e = and-eq-true-iff (test x) (every test xs) .1 (e .0, true-every xs (e .1))
 
+  pub every-behind : (xs ys : List A) → every test xs ≡ true → every test ys ≡ true → every test (xs ++ ys) ≡ true
+  every-behind xs ys e f = true-every (xs ++ ys) (every-append (λ x. test x ≡ true) xs ys (every-true xs e) (every-true ys f))
+
 -- The test over a front of a list, one element after another.
 module _ {A : Type 0} (test : A → Bool) where
   pub every-next : (xs : List A) (i : ℕ) (d : A) → i < length xs → every test (take i xs) ≡ true → test (getD xs i d) ≡ true → every test (take (suc i) xs) ≡ true

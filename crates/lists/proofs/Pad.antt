@@ -71,5 +71,9 @@ length-take-most zero xs = omega arith
 length-take-most (suc n) [] = omega arith
 length-take-most (suc n) (x ∷ xs) = omega (arith, length-take-most n xs)
 
+-- More than there are is all there are.
+pub take-past : {A : Type 0} (n m : ℕ) (xs : List A) → length xs ≡ m → m ≤ n → take n xs ≡ take m xs
+take-past n m xs l h = take-all n xs (omega arith) ∙ sym (take-all m xs (omega arith))
+
 pub getD-pad : {A : Type 0} (blank : A) (size : ℕ) (xs : List A) (i : ℕ) → i < length xs → getD (pad size blank xs) i blank ≡ getD xs i blank
 getD-pad blank size xs i h = List·getD-append xs (replicate (size - length xs) blank) blank i h

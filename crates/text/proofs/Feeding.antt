@@ -8,8 +8,9 @@ use native.Mathlib.Omega.{arith}
 use native.Mathlib.Numerals.{add-one}
 use lib.Dec.{eqb, leb}
 use lib.ListN.{length, getD, set, take, drop, length-append, drop-of-length-le}
-use lib.Seq.{drop-cons, take-all}
+use lib.Seq.{drop-cons}
 use borrow.Author.Tests.{eq-eqb, ne-eqb, lt-ltb, le-ltb, leb-true, leb-false}
+use Rattle.lists.proofs.Pad.{take-past}
 use Rattle.lists.proofs.Joined.{joined-taken}
 use Rattle.ledger.specs.declared.Item.{Item}
 use Rattle.account.specs.declared.Account.{Account}
@@ -44,13 +45,13 @@ kept-within a n line c h = rw (lt-ltb n 31 h, add-one n) refl
 pub kept-full : (a : Account) (n : ℕ) (line : List ℕ) (c : ℕ) → 31 ≤ n → kept (state a n line) c ≡ state a n line
 kept-full a n line c h = rw (le-ltb n 31 h) refl
 
--- More elements than there are are all there are.
+-- No more elements than there are.
 pub take-min : {A : Type 0} (n m : ℕ) (xs : List A) → length xs ≡ m → take (min n m) xs ≡ take n xs
 take-min n m xs l = go (leb n m) refl
   where
     go : (b : Bool) → leb n m ≡ b → take (min n m) xs ≡ take n xs
     go true e = ap (λ k. take k xs) (min-eq-left (leb-true n m e))
-    go false e = ap (λ k. take k xs) (min-eq-right (le-of-lt (leb-false n m e))) ∙ take-all m xs (omega arith) ∙ sym (take-all n xs (omega (arith, leb-false n m e)))
+    go false e = ap (λ k. take k xs) (min-eq-right (le-of-lt (leb-false n m e))) ∙ sym (take-past n m xs l (le-of-lt (leb-false n m e)))
 
 -- A feeding under way: the whole is what is done, with what the rest makes behind it.
 pub record Ahead (whole : Feeding) (text : List ℕ) (taken place : ℕ) (rest : Feeding) (out : List ℕ) : Type 0 where

@@ -33,7 +33,3 @@ turned (negsuc n) f e =
 pub as-it-is : (net : ℤ) → ltZ net (pos 0) ≡ false → natAbs net ≡ twosComplement net
 as-it-is (pos n) e = refl
 as-it-is (negsuc n) e = absurd (true≢false e)
-
-pub magnitude-fits : (net : ℤ) → SFits w32 net → Fits w32 (natAbs net)
-magnitude-fits (pos n) f = record { fits = omega (arith, f .sfits) }
-magnitude-fits (negsuc n) f = record { fits = omega (arith, f .sfits) }

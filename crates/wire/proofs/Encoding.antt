@@ -1,8 +1,8 @@
 -- Every call has a line that is read as that call. Assumes nothing.
-use mathlib.Core.Path.{_≡_, refl, sym, ap, _∙_}
-use mathlib.Core.Bool.{Bool, true, false, _&&_, true≢false}
+use mathlib.Core.Path.{_≡_, refl, ap, _∙_}
+use mathlib.Core.Bool.{Bool, true, false}
 use mathlib.Core.List.{List, [], _∷_, _++_}
-use Prim.Native.Nat.{ℕ, zero, suc, _+_, _-_, _*_, _/_, _%_, _^_, _<_}
+use Prim.Native.Nat.{ℕ, zero, suc, _+_, _*_, _/_, _%_, _^_, _<_}
 use native.Mathlib.Nat.{pow-suc}
 use native.Mathlib.Omega.{arith}
 use lib.Dec.{ltb}
@@ -11,6 +11,7 @@ use lib.Seq.{take-at, drop-append-add}
 use borrow.Author.Tests.{lt-leb, le-leb, ltb-true, ltb-false}
 use Rattle.lists.specs.Sum.{total}
 use Rattle.lists.specs.Every.{every}
+use Rattle.lists.proofs.Every.{every-behind}
 use Rattle.account.specs.declared.Call.{Call}
 use Rattle.account.specs.declared.Call.the-variants.{Opening, Reading, Missed, Absent, Exchange, Disconnection, Reconnection, Cancellation, Payment, StoppedCancellation}
 use Rattle.wire.specs.declared.Parsed.the-variants.{Frame}
@@ -37,19 +38,10 @@ glyph-digit d h = go (ltb d 10) refl
     go false e =
         rw (e, lt-leb (87 + d) 57 (omega (arith, ltb-false d 10 e)), le-leb 48 (87 + d) (omega arith), le-leb 97 (87 + d) (omega (arith, ltb-false d 10 e)), le-leb (87 + d) 102 (omega (arith, h))) refl
 
-every-behind : (xs ys : List ℕ) → every isDigit xs ≡ true → every isDigit ys ≡ true → every isDigit (xs ++ ys) ≡ true
-every-behind [] ys e f = f
-every-behind (x ∷ xs) ys e f = go (isDigit x) (every isDigit xs) refl refl e (λ k. every-behind xs ys k f)
-  where
-    go : (a b : Bool) → isDigit x ≡ a → every isDigit xs ≡ b → (a && b) ≡ true → (every isDigit xs ≡ true → every isDigit (xs ++ ys) ≡ true) → (isDigit x && every isDigit (xs ++ ys)) ≡ true
-    go true true h k t later = rw (h, later k) refl
-    go true false h k t later = absurd (true≢false (sym t))
-    go false b h k t later = absurd (true≢false (sym t))
-
 digits-every : (k n : ℕ) → every isDigit (digits 16 k n) ≡ true
 unfolding digits
 digits-every zero n = refl
-digits-every (suc k) n = every-behind (digits 16 k (n / 16)) (glyph (n % 16) ∷ []) (digits-every k (n / 16)) (rw (glyph-digit (n % 16) (omega arith)) refl)
+digits-every (suc k) n = every-behind isDigit (digits 16 k (n / 16)) (glyph (n % 16) ∷ []) (digits-every k (n / 16)) (rw (glyph-digit (n % 16) (omega arith)) refl)
 
 number-digits : (k n : ℕ) → n < 16 ^ k → numberOf (digits 16 k n) ≡ n
 unfolding digits
@@ -74,7 +66,7 @@ field-later width value from size rest =
 
 packed-every : (fs : List Field) → every isDigit (packed fs) ≡ true
 packed-every [] = refl
-packed-every (f ∷ fs) = every-behind (bytes (f .width) (f .value)) (packed fs) (digits-every (2 * f .width) (f .value)) (packed-every fs)
+packed-every (f ∷ fs) = every-behind isDigit (bytes (f .width) (f .value)) (packed fs) (digits-every (2 * f .width) (f .value)) (packed-every fs)
 
 packed-length : (fs : List Field) → length (packed fs) ≡ 2 * total (λ f. f .width) fs
 packed-length [] = refl

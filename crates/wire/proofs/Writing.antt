@@ -5,8 +5,8 @@ use Prim.Native.Nat.{ℕ, zero, suc, _+_, _-_, _/_, _%_, _≤_, _<_}
 use native.Mathlib.Nat.{add-zero, add-suc, suc-add, not-suc-le-zero, zero-div, zero-mod}
 use native.Mathlib.Omega.{arith}
 use native.Mathlib.Numerals.{add-one}
-use lib.ListN.{length, set, take, replicate, length-append, replicate-append-replicate}
-use lib.Seq.{set-comm, take-all}
+use lib.ListN.{length, set, replicate, length-append, replicate-append-replicate}
+use lib.Seq.{set-comm}
 use Rattle.wire.specs.Digits.{glyph, digits, bytes, written}
 use Rattle.calendar.specs.declared.FoundDate.{FoundDate}
 use Rattle.calendar.specs.Conversions.{toDate}
@@ -67,10 +67,6 @@ written-run text at i k y h =
 -- Texts of so many bytes.
 pub length-behind : (xs ys : List ℕ) (m n : ℕ) → length xs ≡ m → length ys ≡ n → length (xs ++ ys) ≡ m + n
 length-behind xs ys m n e f = length-append xs ys ∙ rw (e, f) refl
-
--- More than there are is all there are.
-pub volumes-most : (volumes : List ℕ) (count : ℕ) → length volumes ≡ 7 → 7 ≤ count → take count volumes ≡ take 7 volumes
-volumes-most volumes count l h = take-all count volumes (omega arith) ∙ sym (take-all 7 volumes (omega arith))
 
 pub length-head : (answer : Answer) → length (answerHead answer) ≡ 12
 length-head answer =

@@ -1,12 +1,13 @@
+use native.Mathlib.Omega.{arith}
 use mathlib.Core.Path.{sym}
 use mir.Facts.{toZ-ofZ}
-use Rattle.ledger.proofs.Signed.{charge-negative, charge-nonnegative, nonnegative, magnitude-fits}
+use Rattle.ledger.proofs.Signed.{charge-negative, charge-nonnegative, nonnegative, magnitude-most}
 use Rattle.ledger.proofs.charge_of.Statement.{statement}
 use Rattle.ledger.proofs.charge_of.Tie as tie
 
 cast-result : tie.Need-cast-result
 cast-result c = let fits = c .before .fits .net in
-    rw (toZ-ofZ fits) (nonnegative (c .before .args .net) (rw (toZ-ofZ fits) at (c .if1 .left)), magnitude-fits (c .before .args .net) fits)
+    rw (toZ-ofZ fits) (nonnegative (c .before .args .net) (rw (toZ-ofZ fits) at (c .if1 .left)), record { fits = omega (arith, magnitude-most (c .before .args .net) fits) })
 
 returns : tie.Need-returns
 returns c = sym (charge-negative (c .before .args .net) (rw (toZ-ofZ (c .before .fits .net)) at (c .if1 .taken)))

@@ -1,7 +1,8 @@
+use Rattle.lists.proofs.Pad.{take-past}
 use Prim.Native.Nat.{_*_, _-_, _≤_}
 use lib.ListN.{getD, length, take}
 use Rattle.wire.specs.Digits.{bytes, written}
-use Rattle.wire.proofs.Writing.{written-on, length-digits, volumes-most}
+use Rattle.wire.proofs.Writing.{written-on, length-digits}
 use Rattle.lists.proofs.Joined.{joined-next, joined-taken}
 use borrow.Author.Needs.{needs}
 use mathlib.Core.Path.{_≡_, refl}
@@ -27,7 +28,7 @@ same-length c = search (c .before .before .loop .inv .2, needs)
 
 returns : tie.Need-returns Inv-loop μ-loop
 returns c = let long : length (c .before .before .before .before .before .args .volumes .volumes) ≡ 7 = search needs in
-    let all : take (c .before .before .before .before .before .args .volumes .count) (c .before .before .before .before .before .args .volumes .volumes) ≡ take 7 (c .before .before .before .before .before .args .volumes .volumes) = volumes-most (c .before .before .before .before .before .args .volumes .volumes) (c .before .before .before .before .before .args .volumes .count) long (omega arith) in
+    let all : take (c .before .before .before .before .before .args .volumes .count) (c .before .before .before .before .before .args .volumes .volumes) ≡ take 7 (c .before .before .before .before .before .args .volumes .volumes) = take-past (c .before .before .before .before .before .args .volumes .count) 7 (c .before .before .before .before .before .args .volumes .volumes) long (omega arith) in
     let seven : c .before .before .loop .i ≡ 7 = omega arith in
     rw (all, joined-taken (bytes 4) 8 (length-digits 16 8) (c .before .before .before .before .before .args .volumes .volumes) 7 (omega arith)) (rw seven at (c .before .before .loop .inv .3), (refl, omega arith))
 

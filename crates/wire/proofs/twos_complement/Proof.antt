@@ -1,6 +1,7 @@
+use native.Mathlib.Omega.{arith}
 use mir.Facts.{toZ-ofZ}
-use Rattle.ledger.proofs.Signed.{nonnegative}
-use Rattle.wire.proofs.Answers.{Turned, turned, as-it-is, magnitude-fits}
+use Rattle.ledger.proofs.Signed.{nonnegative, magnitude-most}
+use Rattle.wire.proofs.Answers.{Turned, turned, as-it-is}
 use Rattle.wire.proofs.twos_complement.Statement.{statement}
 use Rattle.wire.proofs.twos_complement.Tie as tie
 
@@ -15,7 +16,7 @@ returns c = turned-is c .back
 
 cast-result-2 : tie.Need-cast-result-2
 cast-result-2 c = let fits = c .before .fits .net in
-    rw (toZ-ofZ fits) (nonnegative (c .before .args .net) (rw (toZ-ofZ fits) at (c .if1 .left)), magnitude-fits (c .before .args .net) fits)
+    rw (toZ-ofZ fits) (nonnegative (c .before .args .net) (rw (toZ-ofZ fits) at (c .if1 .left)), record { fits = omega (arith, magnitude-most (c .before .args .net) fits) })
 
 returns-2 : tie.Need-returns-2
 returns-2 c = let fits = c .before .fits .net in
