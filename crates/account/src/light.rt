@@ -1,12 +1,10 @@
 // Light calls: accepted ones that close no period and settle and post no item. They are worked on the few numbers that they change, so that no item is copied.
 ghost use mathlib.Core.Path.{_≡_};
-ghost use mathlib.Core.Bool.{true, false};
-ghost use Rattle.ledger.specs.Oldest.{Tidy};
+ghost use mathlib.Core.Bool.{true};
 ghost use Rattle.ledger.specs.Posting.{OpenBounds};
-ghost use Rattle.account.specs.declared.Call.the-variants.{Exchange, Payment};
 ghost use Rattle.account.specs.Calls.{quiet};
-ghost use Rattle.account.specs.LightCalls.{lightened, Lightly};
-ghost use Rattle.account.specs.Outcomes.{accepted, outcome};
+ghost use Rattle.account.specs.LightCalls.{notLight, lightExchange, lightPaid, lightPayment, lightOf, lightened};
+ghost use Rattle.account.specs.Outcomes.{accepted};
 ghost use Rattle.account.specs.Whole.{whole};
 use crate::Account;
 use crate::Answer;
@@ -17,7 +15,7 @@ use crate::refusals::is_cancelled;
 use crate::refusals::payment_refusal;
 use crate::whole::quiet_answer;
 
-// What a light call changes, and whether the call is known to be one. `oldest` is what is unpaid of the oldest item.
+// What a light call changes, and whether the call is one. `oldest` is what is unpaid of the oldest item.
 pub struct Light {
     pub applies: bool,
     pub latest: u16,
@@ -28,9 +26,9 @@ pub struct Light {
     pub credit: u64,
 }
 
-// A call that is not known to be light.
-pub fn unknown() -> Light
-    ensures { λ r. ⌜ r .applies ≡ false ⌝ }
+// A call that is no light one.
+pub fn not_light() -> Light
+    ensures { λ r. ⌜ r ≡ notLight ⌝ }
 {
     Light {
         applies: false,
@@ -46,11 +44,11 @@ pub fn unknown() -> Light
 // 05
 fn exchange_meter(account: Account, day: u16, old: u32, new: u32, digits: u8) -> Light
     requires { ⌜ whole account ≡ true ⌝ }
-    ensures { λ r. ⌜ (r .applies ≡ true → Lightly account (outcome account (Exchange day old new digits)) r) ⌝ }
+    ensures { λ r. ⌜ r ≡ lightExchange account day old new digits ⌝ }
 {
     let ledger = account.ledger;
     if exchange_refusal(account, day, old, new, digits) != 0 {
-        return unknown();
+        return not_light();
     }
     Light {
         applies: true,
@@ -66,33 +64,32 @@ fn exchange_meter(account: Account, day: u16, old: u32, new: u32, digits: u8) ->
 // 09
 fn pay(account: Account, day: u16, yen: u32) -> Light
     requires { ⌜ whole account ≡ true ⌝ }
-    requires { ⌜ Tidy (account .ledger) ⌝ }
-    ensures { λ r. ⌜ (r .applies ≡ true → Lightly account (outcome account (Payment day yen)) r) ⌝ }
+    ensures { λ r. ⌜ r ≡ lightPayment account day yen ⌝ }
 {
     let status = account.status;
     let ledger = account.ledger;
     let oldest = ledger.oldest_unpaid();
     if is_cancelled(status) {
-        return unknown();
+        return not_light();
     }
     if payment_refusal(account, day, yen) != 0 {
-        return unknown();
+        return not_light();
     }
     if ledger.count == 0 {
         let credit = ledger.credit + yen as u64;
         if credit > 999_999_999 {
-            return unknown();
+            return not_light();
         }
         return received(account, day, oldest, credit);
     }
-    if oldest <= yen as u64 {
-        return unknown();
+    if yen as u64 >= oldest {
+        return not_light();
     }
     received(account, day, oldest - yen as u64, ledger.credit)
 }
 
 fn received(account: Account, day: u16, oldest: u64, credit: u64) -> Light
-    ensures { λ r. ⌜ r ≡ record { applies = true; latest = day; digits = account .digits; dial = account .dial; pool = account .pool; oldest = oldest; credit = credit } ⌝ }
+    ensures { λ r. ⌜ r ≡ lightPaid account day oldest credit ⌝ }
 {
     Light {
         applies: true,
@@ -108,8 +105,7 @@ fn received(account: Account, day: u16, oldest: u64, credit: u64) -> Light
 // What a call changes, where it is a light one.
 pub fn changes(account: Account, call: Call) -> Light
     requires { ⌜ whole account ≡ true ⌝ }
-    requires { ⌜ Tidy (account .ledger) ⌝ }
-    ensures { λ r. ⌜ (r .applies ≡ true → Lightly account (outcome account call) r) ⌝ }
+    ensures { λ r. ⌜ r ≡ lightOf account call ⌝ }
 {
     match call {
         Call::Exchange {
@@ -119,7 +115,7 @@ pub fn changes(account: Account, call: Call) -> Light
             digits,
         } => exchange_meter(account, day, old, new, digits),
         Call::Payment { day, yen } => pay(account, day, yen),
-        _ => unknown(),
+        _ => not_light(),
     }
 }
 

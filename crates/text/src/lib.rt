@@ -5,11 +5,11 @@ ghost use Prim.Native.Nat.{_+_, _*_, min, _≤_};
 ghost use lib.ListN.{length, take};
 ghost use Rattle.wire.specs.Digits.{written};
 ghost use Rattle.wire.specs.Notices.{noticeLength};
-ghost use Rattle.text.specs.Output.{parsedOutcome, accountAfter, noticesOf, openNotices, bill, notice, longestInput, sizeOf, fitted, worked};
+ghost use Rattle.text.specs.Output.{parsedOutcome, lightLine, accountAfter, noticesOf, openNotices, bill, notice, longestInput, sizeOf, fitted, worked};
 ghost use Rattle.account.specs.Calls.{newAccount};
 ghost use Rattle.account.specs.Outcomes.{outcome};
 ghost use Rattle.account.specs.Whole.{whole};
-ghost use Rattle.account.specs.LightCalls.{Lightly};
+ghost use Rattle.account.specs.LightCalls.{notLight};
 ghost use Rattle.text.specs.Reached.{Reached};
 ghost use Rattle.text.specs.Lines.{linesOf};
 ghost use Rattle.text.specs.Pieces.{Sums};
@@ -78,17 +78,17 @@ fn answer_line(account: Account, line: Parsed, known: bool) -> Outcome
     }
 }
 
-// What a line changes, where it is a light call on an account known to come from a new one.
+// What a line changes, where it is a light call. Of an account not known to come from a new one it is not asked.
 fn light_line(account: Account, line: Parsed, known: bool) -> Light
-    requires { ⌜ (known ≡ true → Reached account) ⌝ }
-    ensures { λ r. ⌜ (r .applies ≡ true → Lightly account (parsedOutcome account line) r) ⌝ }
+    requires { ⌜ (known ≡ true → whole account ≡ true) ⌝ }
+    ensures { λ r. ⌜ r ≡ cond known (lightLine account line) notLight ⌝ }
 {
     if !known {
-        return account::light::unknown();
+        return account::light::not_light();
     }
     match line {
         Parsed::Frame(call) => account::light::changes(account, call),
-        Parsed::NotAFrame => account::light::unknown(),
+        Parsed::NotAFrame => account::light::not_light(),
     }
 }
 

@@ -11,12 +11,13 @@ use Rattle.account.specs.declared.Account.{Account}
 use Rattle.account.specs.declared.Outcome.{Outcome}
 use Rattle.account.specs.Calls.{quiet}
 use Rattle.account.specs.Outcomes.{accepted}
+use Rattle.account.specs.LightCalls.{Lightly}
 use Rattle.wire.specs.Frames.{parsed}
 use Rattle.text.specs.declared.State.{State}
 use Rattle.text.specs.Output.{parsedOutcome}
 use Rattle.text.specs.Feeding.{lineEnds, Feeding, feeding}
 use Rattle.text.specs.Reached.{Reached}
-use Rattle.text.proofs.Reached.{reached-whole, reached-line}
+use Rattle.text.proofs.Reached.{reached-whole, line-lightly, reached-line}
 use Rattle.text.proofs.Feeding.{state, Ahead, ahead-start, ahead-done, ahead-text, take-min, kept-within, kept-full, line-ended, line-waits, byte-kept, input-ended}
 use Rattle.text.proofs.feed_as.Statement.{statement}
 use Rattle.text.proofs.feed_as.Tie as tie
@@ -57,11 +58,14 @@ read-is c =
     let l = c .before .before .before .before .before .before .before .before in
     c .decode .ensures ∙ ap parsed (ap (λ n. take n (l .loop .line)) (c .before .before .before .shown-length .ensures) ∙ take-min (l .loop .length) 31 (l .loop .line) (l .loop .inv .3))
 
+lightly-is : (c : tie.Then3 Inv-loop μ-loop) → Lightly (c .before .before .before .before .before .before .before .before .before .before .loop .account) (parsedOutcome (c .before .before .before .before .before .before .before .before .before .before .loop .account) (c .before .before .decode .result)) (c .before .light-line .result)
+lightly-is c = line-lightly (c .before .before .before .before .before .before .before .before .before .before .loop .account) (c .before .before .decode .result) (c .before .before .before .before .before .before .before .before .before .before .before .before .before .before .before .before .args .known) (c .before .before .before .before .before .before .before .before .before .before .loop .inv .5) (c .before .light-line .result) (c .before .light-line .ensures) (c .if3 .taken)
+
 -- what a light call comes to
 light-is : (c : tie.After-answer Inv-loop μ-loop) → record { account = c .before .apply .result; answer = c .answer .result } ≡ lineEnds (stands (c .before .before .before .before .before .before .before .before .before .before .before .before))
 light-is c =
     let a = c .before .before .before .before .before .before .before .before .before .before .before .before .loop .account in
-    let lightly = c .before .before .before .light-line .ensures (c .before .before .if3 .taken) in
+    let lightly = lightly-is (c .before .before) in
     (λ i. record { account = c .before .apply .result; answer = c .answer .ensures i }) ∙
     ap (λ (x : Account). accepted (quiet x)) (c .before .apply .ensures) ∙
     sym (lightly .outcome-is) ∙
@@ -120,7 +124,7 @@ decode-requires : tie.Need-decode-requires Inv-loop μ-loop
 decode-requires c κs = c .before .before .before .before .before .before .before .before .before .before .digit-table .ensures
 
 light-line-requires : tie.Need-light-line-requires Inv-loop μ-loop
-light-line-requires c κs = c .before .before .before .before .before .before .before .before .loop .inv .5
+light-line-requires c κs = λ k. reached-whole (c .before .before .before .before .before .before .before .before .loop .account) (c .before .before .before .before .before .before .before .before .loop .inv .5 k)
 
 add-taken : tie.Need-add-taken Inv-loop μ-loop
 add-taken c = omega arith
@@ -129,7 +133,7 @@ apply-requires : tie.Need-apply-requires Inv-loop μ-loop
 apply-requires c κs = tt
 
 answer-requires : tie.Need-answer-requires Inv-loop μ-loop
-answer-requires c κs = rw (c .apply .ensures) (c .before .before .light-line .ensures (c .before .if3 .taken) .open-bounds)
+answer-requires c κs = rw (c .apply .ensures) (lightly-is (c .before) .open-bounds)
 
 put-answer-requires : tie.Need-put-answer-requires Inv-loop μ-loop
 put-answer-requires c κs = omega (arith, c .before .before .before .before .before .before .before .before .before .if2 .left)
