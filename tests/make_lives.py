@@ -637,6 +637,24 @@ def _(a):
     a.open(price_item(89, 1_900))
 
 
+@life("oldest_paid", "a yen less than the oldest item owes, that yen, a yen more than the next owes; meter changes with items open and with none")
+def _(a):
+    # Two items of 4,850. The pool at the end: 1 from the first meter, 0 from the second, 9 from the third; 10 m³ in 30 days 2,900.
+    a(opening(0, 100, 4))
+    a(read(29, 120), volumes=[20], net=4_850, unpaid=4_850)
+    a(read(59, 140), volumes=[20], net=4_850, unpaid=9_700)
+    a(payment(59, 4_849), unpaid=4_851)
+    a(change(59, 141, 7, 5), unpaid=4_851)
+    a(payment(59, 1), unpaid=4_850)
+    a(payment(60, 4_851), credit=1)
+    a(change(60, 7, 9_990, 4), credit=1)
+    a(payment(60, 99_999_999), credit=100_000_000)
+    a(payment(61, 99_999_999), credit=199_999_999)
+    a.no(11, payment(61, 0))
+    a.no(3, payment(60, 1), change(60, 9_991, 0, 4))
+    a(read(89, 9_999), volumes=[10], net=2_900, credit=199_997_099)
+
+
 @life("credit_pays", "credit pays interest and price in the closing that posts them: 5,150 − 13 − 1,900 = 3,237")
 def _(a):
     a(opening(0, 0, 4))
