@@ -16,17 +16,17 @@ use Rattle.account.specs.declared.Call.the-variants.{Opening, Reading, M
 use Rattle.account.specs.declared.light.Light.{Light}
 use Rattle.account.specs.Limits.{creditAllowed}
 use Rattle.account.specs.Calls.{Work, poolTo, quiet, work, isCancelled, paidLedger, withLedger}
-use Rattle.account.specs.LightCalls.{notLight, lightPaid, lightPassed, lightOf, Lightly}
+use Rattle.account.specs.LightCalls.{notLight, lightExchanged, lightPaid, lightCredited, lightPart, lightPassed, lightOf, Lightly}
 use Rattle.account.specs.Outcomes.{accepted, outcome}
 use Rattle.account.specs.Refusals.{exchangeRefusal, paymentRefusal, firstRefusal, lastRefusal}
 use Rattle.account.specs.Whole.{whole}
-use Rattle.account.proofs.Facts.{LedgerFacts, whole-facts, supplied-facts, not-new-facts}
-use Rattle.account.proofs.Passed.{exchange-passed, payment-passed}
-use Rattle.account.proofs.Ready.{whole-open, payment-ready, sound-open}
+use Rattle.account.proofs.Facts.{whole-facts, supplied-facts}
+use Rattle.account.proofs.Passed.{exchange-passed}
+use Rattle.account.proofs.Ready.{whole-open, payment-ledger, payment-ready, sound-open}
 use Rattle.account.proofs.Concluding.{concluded-accepted, outcome-concluded}
 
 -- No credit is left while an item is open.
-pub spent-while-open : {credit count : ℕ} → (credit ≡ 0) ⊎ (count ≡ 0) → (count ≡ 0 → ⊥) → credit ≡ 0
+spent-while-open : {credit count : ℕ} → (credit ≡ 0) ⊎ (count ≡ 0) → (count ≡ 0 → ⊥) → credit ≡ 0
 spent-while-open (inl spent) some = spent
 spent-while-open (inr none) some = absurd (some none)
 
@@ -46,7 +46,7 @@ module _ (a : Account) (day old new digits : ℕ) (w : whole a ≡ true) (passed
       outcome-concluded a (Exchange day old new digits) w (unfold firstRefusal in passed) ∙
       concluded-accepted a (work a (Exchange day old new digits)) (unfold work in exchange-limits)
 
-  exchange-lightly : Lightly a (outcome a (Exchange day old new digits)) (record { applies = true; latest = day; digits = digits; dial = new; pool = poolTo a old; oldest = oldest (a .ledger) .unpaid; credit = a .ledger .credit })
+  exchange-lightly : Lightly a (outcome a (Exchange day old new digits)) (lightExchanged a day old new digits)
   unfolding work
   exchange-lightly =
       let same : a .ledger ≡ withOldest (a .ledger) (oldest (a .ledger) .unpaid) (a .ledger .credit) = sym (same-oldest (a .ledger)) in
@@ -77,7 +77,7 @@ module _ (a : Account) (day yen : ℕ) (w : whole a ≡ true) (passed : paymentR
       }
     where
       items-most : a .ledger .count ≤ 72
-      items-most = not-new-facts (a .status) a (payment-passed a day yen passed .not-new) (whole-facts a w) .ledger .count-most
+      items-most = payment-ledger a day yen w passed .count-most
 
       limits : lastRefusal (stored (paidLedger a day yen)) ≡ 0
       limits = subst (λ (l : Ledger). lastRefusal l ≡ 0) paid-is (within-limits (withOldest (a .ledger) unpaid credit) items-most most)
@@ -97,23 +97,20 @@ module _ (a : Account) (day yen : ℕ) (w : whole a ≡ true) (tidy : Tidy (a .l
   abbrev o : Outcome
   o = outcome a (Payment day yen)
 
-  facts : LedgerFacts (a .latest) (a .ledger)
-  facts = not-new-facts (a .status) a (payment-passed a day yen passed .not-new) (whole-facts a w) .ledger
-
-  credited-lightly : a .ledger .count ≡ 0 → a .ledger .credit + yen ≤ 999999999 → Lightly a o (lightPaid a day (oldest (a .ledger) .unpaid) (a .ledger .credit + yen))
+  credited-lightly : a .ledger .count ≡ 0 → a .ledger .credit + yen ≤ 999999999 → Lightly a o (lightCredited a day yen)
   credited-lightly none most = payment-lightly a day yen w passed running (oldest (a .ledger) .unpaid) (a .ledger .credit + yen) (paid-none (a .ledger) tidy none day yen) most
 
-  part-lightly : (a .ledger .count ≡ 0 → ⊥) → yen < oldest (a .ledger) .unpaid → Lightly a o (lightPaid a day (oldest (a .ledger) .unpaid - yen) (a .ledger .credit))
+  part-lightly : (a .ledger .count ≡ 0 → ⊥) → yen < oldest (a .ledger) .unpaid → Lightly a o (lightPart a day yen)
   part-lightly some less =
-      payment-lightly a day yen w passed running (oldest (a .ledger) .unpaid - yen) (a .ledger .credit) (paid-part (a .ledger) tidy some (spent-while-open (facts .credit-or-none) some) day yen less) (facts .credit-most)
+      payment-lightly a day yen w passed running (oldest (a .ledger) .unpaid - yen) (a .ledger .credit) (paid-part (a .ledger) tidy some (spent-while-open (payment-ledger a day yen w passed .credit-or-none) some) day yen less) (payment-ledger a day yen w passed .credit-most)
 
   open-or-none : lightPassed a day yen .applies ≡ true → Lightly a o (lightPassed a day yen)
   open-or-none =
       either-light (eqb (a .ledger .count) 0)
-      (cond (creditAllowed (a .ledger .credit + yen)) (lightPaid a day (oldest (a .ledger) .unpaid) (a .ledger .credit + yen)) notLight)
-      (cond (ltb yen (oldest (a .ledger) .unpaid)) (lightPaid a day (oldest (a .ledger) .unpaid - yen) (a .ledger .credit)) notLight)
-      (λ none. when-light (creditAllowed (a .ledger .credit + yen)) (lightPaid a day (oldest (a .ledger) .unpaid) (a .ledger .credit + yen)) (λ most _. credited-lightly (eqb-true (a .ledger .count) 0 none) (leb-true (a .ledger .credit + yen) 999999999 most)))
-      (λ some. when-light (ltb yen (oldest (a .ledger) .unpaid)) (lightPaid a day (oldest (a .ledger) .unpaid - yen) (a .ledger .credit)) (λ less _. part-lightly (eqb-false (a .ledger .count) 0 some) (ltb-true yen (oldest (a .ledger) .unpaid) less)))
+      (cond (creditAllowed (a .ledger .credit + yen)) (lightCredited a day yen) notLight)
+      (cond (ltb yen (oldest (a .ledger) .unpaid)) (lightPart a day yen) notLight)
+      (λ none. when-light (creditAllowed (a .ledger .credit + yen)) (lightCredited a day yen) (λ most _. credited-lightly (eqb-true (a .ledger .count) 0 none) (leb-true (a .ledger .credit + yen) 999999999 most)))
+      (λ some. when-light (ltb yen (oldest (a .ledger) .unpaid)) (lightPart a day yen) (λ less _. part-lightly (eqb-false (a .ledger .count) 0 some) (ltb-true yen (oldest (a .ledger) .unpaid) less)))
 
 -- A light call comes to what it comes to as any call does.
 pub light-lightly : (a : Account) → whole a ≡ true → Tidy (a .ledger) → (call : Call) → lightOf a call .applies ≡ true → Lightly a (outcome a call) (lightOf a call)
@@ -123,7 +120,7 @@ light-lightly a w tidy (Reading day reading fuel) applies = absurd (false≢true
 light-lightly a w tidy (Missed day fuel) applies = absurd (false≢true applies)
 light-lightly a w tidy (Absent day fuel) applies = absurd (false≢true applies)
 light-lightly a w tidy (Exchange day old new digits) applies =
-    when-light (eqb (exchangeRefusal a day old new digits) 0) (record { applies = true; latest = day; digits = digits; dial = new; pool = poolTo a old; oldest = oldest (a .ledger) .unpaid; credit = a .ledger .credit })
+    when-light (eqb (exchangeRefusal a day old new digits) 0) (lightExchanged a day old new digits)
     (λ passed _. exchange-lightly a day old new digits w (eqb-true (exchangeRefusal a day old new digits) 0 passed)) applies
 light-lightly a w tidy (Disconnection day reading fuel) applies = absurd (false≢true applies)
 light-lightly a w tidy (Reconnection day reading digits) applies = absurd (false≢true applies)

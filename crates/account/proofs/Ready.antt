@@ -194,6 +194,10 @@ module _ (latest day : ℕ) (ledger : Ledger) (w : LedgerFacts latest ledger) (m
 pub reading-closed : (a : Account) (day reading : ℕ) (fuel : Fuel) → ReadingReady a day reading fuel → Bounded day (closedLedger a day reading fuel)
 reading-closed a day reading fuel w = ledger-closed (a .latest) day (a .ledger) (w .ledger) (w .day-most) (w .not-before) (closingNet a day reading fuel) (w .net-bounds)
 
+-- 09: what is known of the ledger.
+pub payment-ledger : (a : Account) (day yen : ℕ) → whole a ≡ true → paymentRefusal a day yen ≡ 0 → LedgerFacts (a .latest) (a .ledger)
+payment-ledger a day yen w e = not-new-facts (a .status) a (payment-passed a day yen e .not-new) (whole-facts a w) .ledger
+
 -- 09: what stands after a payment, and on a cancelled account after the interest that it brings is posted.
 pub record PaymentReady (a : Account) (day yen : ℕ) : Type 0 where
   pub day-most : day ≤ 36494
@@ -216,7 +220,7 @@ payment-ready a day yen w e =
     p = payment-passed a day yen e
 
     ledger : LedgerFacts (a .latest) (a .ledger)
-    ledger = not-new-facts (a .status) a (p .not-new) (whole-facts a w) .ledger
+    ledger = payment-ledger a day yen w e
 
     items : Every (ItemFacts day) (standing (a .ledger) .open-items)
     items = items-later (a .latest) day (a .ledger) (p .not-before) ledger

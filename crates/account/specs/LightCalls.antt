@@ -1,4 +1,5 @@
 -- Light calls: accepted ones that close no period and settle and post no item. They change the day, the dial, the pool, the credit and what the oldest item owes, and nothing else.
+-- Document 01 does not set them apart: they are a shorter way to the outcome that `Outcomes.outcome` gives, which `LightCalls.light-lightly` proves.
 use mathlib.Core.Path.{_≡_}
 use mathlib.Core.Bool.{true, false, cond, not}
 use Prim.Native.Nat.{ℕ, _+_, _-_}
@@ -19,11 +20,10 @@ use Rattle.account.specs.Outcomes.{accepted}
 abbrev pub notLight : Light
 notLight = record { applies = false; latest = 0; digits = 0; dial = 0; pool = 0; oldest = 0; credit = 0 }
 
--- 05, where nothing declines it.
-abbrev pub lightExchange : Account → ℕ → ℕ → ℕ → ℕ → Light
-lightExchange a day old new digits =
-    cond (eqb (exchangeRefusal a day old new digits) 0)
-    (record {
+-- 05: the new meter's day, dial and digits, and the pool with the old meter's advance.
+abbrev pub lightExchanged : Account → ℕ → ℕ → ℕ → ℕ → Light
+lightExchanged a day old new digits =
+    record {
       applies = true;
       latest = day;
       digits = digits;
@@ -31,20 +31,31 @@ lightExchange a day old new digits =
       pool = poolTo a old;
       oldest = oldest (a .ledger) .unpaid;
       credit = a .ledger .credit;
-    })
-    notLight
+    }
+
+-- 05, where nothing declines it.
+abbrev pub lightExchange : Account → ℕ → ℕ → ℕ → ℕ → Light
+lightExchange a day old new digits =
+    cond (eqb (exchangeRefusal a day old new digits) 0) (lightExchanged a day old new digits) notLight
 
 -- 09: another amount unpaid of the oldest item, and another credit.
 abbrev pub lightPaid : Account → ℕ → ℕ → ℕ → Light
 lightPaid a day unpaid credit =
     record { applies = true; latest = day; digits = a .digits; dial = a .dial; pool = a .pool; oldest = unpaid; credit = credit }
 
--- 09 that 1 to 11 let pass: with nothing open it is credit, and below what the oldest item owes it is taken off that.
+-- With nothing open, a payment is credit; below what the oldest item owes, it is taken off that.
+abbrev pub lightCredited : Account → ℕ → ℕ → Light
+lightCredited a day yen = lightPaid a day (oldest (a .ledger) .unpaid) (a .ledger .credit + yen)
+
+abbrev pub lightPart : Account → ℕ → ℕ → Light
+lightPart a day yen = lightPaid a day (oldest (a .ledger) .unpaid - yen) (a .ledger .credit)
+
+-- 09 that 1 to 11 let pass: credit as number 13 allows, or a part of the oldest item.
 abbrev pub lightPassed : Account → ℕ → ℕ → Light
 lightPassed a day yen =
     cond (eqb (a .ledger .count) 0)
-    (cond (creditAllowed (a .ledger .credit + yen)) (lightPaid a day (oldest (a .ledger) .unpaid) (a .ledger .credit + yen)) notLight)
-    (cond (ltb yen (oldest (a .ledger) .unpaid)) (lightPaid a day (oldest (a .ledger) .unpaid - yen) (a .ledger .credit)) notLight)
+    (cond (creditAllowed (a .ledger .credit + yen)) (lightCredited a day yen) notLight)
+    (cond (ltb yen (oldest (a .ledger) .unpaid)) (lightPart a day yen) notLight)
 
 -- 09, where the account is not cancelled and nothing declines it.
 abbrev pub lightPayment : Account → ℕ → ℕ → Light

@@ -88,6 +88,7 @@ fn pay(account: Account, day: u16, yen: u32) -> Light
     received(account, day, oldest - yen as u64, ledger.credit)
 }
 
+// Another amount unpaid of the oldest item, and another credit.
 fn received(account: Account, day: u16, oldest: u64, credit: u64) -> Light
     ensures { λ r. ⌜ r ≡ lightPaid account day oldest credit ⌝ }
 {

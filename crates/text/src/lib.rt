@@ -92,6 +92,7 @@ fn light_line(account: Account, line: Parsed, known: bool) -> Light
     }
 }
 
+// What a piece leaves.
 fn handed_back(account: Account, length: usize, line: [u8; 31], taken: usize, written: usize) -> Fed
     ensures { λ r. ⌜ r ≡ record { state = record { account = account; length = length; line = line }; taken = taken; written = written } ⌝ }
 {
@@ -136,7 +137,7 @@ pub fn feed_as(state: State, input: &[u8], out: &mut [u8], known: bool) -> Fed
                 return handed_back(account, length, line, taken, written);
             }
             let end = shown_length(length);
-            let parsed = wire::decode(&line[..end], &table);
+            let parsed = wire::decode_by(&line[..end], &table);
             let light = light_line(account, parsed, known);
             length = 0;
             taken += 1;

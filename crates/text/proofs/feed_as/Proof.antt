@@ -53,13 +53,13 @@ more : (c : tie.In-loop Inv-loop μ-loop) → c .before .loop .taken < length (b
 more c = omega arith
 
 -- what the line that ends is read as
-read-is : (c : tie.After-decode Inv-loop μ-loop) → c .decode .result ≡ parsed (take (c .before .before .before .before .before .before .before .before .loop .length) (c .before .before .before .before .before .before .before .before .loop .line))
+read-is : (c : tie.After-decode-by Inv-loop μ-loop) → c .decode-by .result ≡ parsed (take (c .before .before .before .before .before .before .before .before .loop .length) (c .before .before .before .before .before .before .before .before .loop .line))
 read-is c =
     let l = c .before .before .before .before .before .before .before .before in
-    c .decode .ensures ∙ ap parsed (ap (λ n. take n (l .loop .line)) (c .before .before .before .shown-length .ensures) ∙ take-min (l .loop .length) 31 (l .loop .line) (l .loop .inv .3))
+    c .decode-by .ensures ∙ ap parsed (ap (λ n. take n (l .loop .line)) (c .before .before .before .shown-length .ensures) ∙ take-min (l .loop .length) 31 (l .loop .line) (l .loop .inv .3))
 
-lightly-is : (c : tie.Then3 Inv-loop μ-loop) → Lightly (c .before .before .before .before .before .before .before .before .before .before .loop .account) (parsedOutcome (c .before .before .before .before .before .before .before .before .before .before .loop .account) (c .before .before .decode .result)) (c .before .light-line .result)
-lightly-is c = line-lightly (c .before .before .before .before .before .before .before .before .before .before .loop .account) (c .before .before .decode .result) (c .before .before .before .before .before .before .before .before .before .before .before .before .before .before .before .before .args .known) (c .before .before .before .before .before .before .before .before .before .before .loop .inv .5) (c .before .light-line .result) (c .before .light-line .ensures) (c .if3 .taken)
+lightly-is : (c : tie.Then3 Inv-loop μ-loop) → Lightly (c .before .before .before .before .before .before .before .before .before .before .loop .account) (parsedOutcome (c .before .before .before .before .before .before .before .before .before .before .loop .account) (c .before .before .decode-by .result)) (c .before .light-line .result)
+lightly-is c = line-lightly (c .before .before .before .before .before .before .before .before .before .before .loop .account) (c .before .before .decode-by .result) (c .before .before .before .before .before .before .before .before .before .before .before .before .before .before .before .before .args .known) (c .before .before .before .before .before .before .before .before .before .before .loop .inv .5) (c .before .light-line .result) (c .before .light-line .ensures) (c .if3 .taken)
 
 -- what a light call comes to
 light-is : (c : tie.After-answer Inv-loop μ-loop) → record { account = c .before .apply .result; answer = c .answer .result } ≡ lineEnds (stands (c .before .before .before .before .before .before .before .before .before .before .before .before))
@@ -112,16 +112,16 @@ array-share-prefix-line : tie.Need-array-share-prefix-line Inv-loop μ-loop
 array-share-prefix-line c = let long : length (c .before .before .before .before .before .loop .line) ≡ 31 = c .before .before .before .before .before .loop .inv .3 in
     rw (c .shown-length .ensures) (omega arith)
 
-slice-aggregate-decode : tie.Need-slice-aggregate-decode Inv-loop μ-loop
-slice-aggregate-decode c = let l = c .before .before .before .before .before .before in
+slice-aggregate-decode-by : tie.Need-slice-aggregate-decode-by Inv-loop μ-loop
+slice-aggregate-decode-by c = let l = c .before .before .before .before .before .before in
     let long : length (l .loop .line) ≡ 31 = l .loop .inv .3 in
     rw (c .before .shown-length .ensures) (sym (length-take-le (min (l .loop .length) 31) (l .loop .line) (omega arith)))
 
-slice-aggregate-decode-2 : tie.Need-slice-aggregate-decode-2 Inv-loop μ-loop
-slice-aggregate-decode-2 c = sym (c .before .before .before .before .before .before .before .before .before .before .digit-table .ensures .long)
+slice-aggregate-decode-by-2 : tie.Need-slice-aggregate-decode-by-2 Inv-loop μ-loop
+slice-aggregate-decode-by-2 c = sym (c .before .before .before .before .before .before .before .before .before .before .digit-table .ensures .long)
 
-decode-requires : tie.Need-decode-requires Inv-loop μ-loop
-decode-requires c κs = c .before .before .before .before .before .before .before .before .before .before .digit-table .ensures
+decode-by-requires : tie.Need-decode-by-requires Inv-loop μ-loop
+decode-by-requires c κs = c .before .before .before .before .before .before .before .before .before .before .digit-table .ensures
 
 light-line-requires : tie.Need-light-line-requires Inv-loop μ-loop
 light-line-requires c κs = λ k. reached-whole (c .before .before .before .before .before .before .before .before .loop .account) (c .before .before .before .before .before .before .before .before .loop .inv .5 k)
@@ -233,9 +233,9 @@ feed-as-spec =
     returns
     shown-length-requires
     array-share-prefix-line
-    slice-aggregate-decode
-    slice-aggregate-decode-2
-    decode-requires
+    slice-aggregate-decode-by
+    slice-aggregate-decode-by-2
+    decode-by-requires
     light-line-requires
     add-taken
     apply-requires

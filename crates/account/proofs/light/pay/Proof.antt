@@ -5,8 +5,8 @@ use native.Mathlib.Omega.{arith}
 use borrow.Author.Tests.{eq-eqb, ne-eqb, le-leb, lt-leb, lt-ltb, le-ltb}
 use Rattle.account.specs.Calls.{isCancelled}
 use Rattle.account.specs.Refusals.{paymentRefusal}
-use Rattle.account.proofs.Facts.{whole-facts, not-new-facts}
 use Rattle.account.proofs.Passed.{payment-passed}
+use Rattle.account.proofs.Ready.{payment-ledger}
 use borrow.Author.Needs.{needs}
 use Rattle.account.proofs.light.pay.Statement.{statement}
 use Rattle.account.proofs.light.pay.Tie as tie
@@ -39,8 +39,7 @@ returns-2 : tie.Need-returns-2
 returns-2 c = rw (running (c .before .before .before), ← c .before .before .payment-refusal .ensures, ne-eqb (c .before .before .payment-refusal .result) 0 (c .before .if2 .taken)) (c .not-light2 .ensures)
 
 add-credit : tie.Need-add-credit
-add-credit c = let facts = not-new-facts (c .before .before .before .before .before .before .before .before .before .args .account .status) (c .before .before .before .before .before .before .before .before .before .args .account) (payment-passed (c .before .before .before .before .before .before .before .before .before .args .account) (c .before .before .before .before .before .before .before .before .before .args .day) (c .before .before .before .before .before .before .before .before .before .args .yen) (passed (c .before .before .before)) .not-new) (whole-facts (c .before .before .before .before .before .before .before .before .before .args .account) (c .before .before .before .before .before .before .before .before .before .pre)) .ledger in
-    omega (arith, facts .credit-most, payment-passed (c .before .before .before .before .before .before .before .before .before .args .account) (c .before .before .before .before .before .before .before .before .before .args .day) (c .before .before .before .before .before .before .before .before .before .args .yen) (passed (c .before .before .before)) .yen-most)
+add-credit c = omega (arith, payment-ledger (c .before .before .before .before .before .before .before .before .before .args .account) (c .before .before .before .before .before .before .before .before .before .args .day) (c .before .before .before .before .before .before .before .before .before .args .yen) (c .before .before .before .before .before .before .before .before .before .pre) (passed (c .before .before .before)) .credit-most, payment-passed (c .before .before .before .before .before .before .before .before .before .args .account) (c .before .before .before .before .before .before .before .before .before .args .day) (c .before .before .before .before .before .before .before .before .before .args .yen) (passed (c .before .before .before)) .yen-most)
 
 not-light-requires-3 : tie.Need-not-light-requires-3
 not-light-requires-3 c κs = search needs
