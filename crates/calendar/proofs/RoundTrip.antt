@@ -10,7 +10,7 @@ use Rattle.calendar.specs.declared.Date.{Date}
 use Rattle.calendar.specs.declared.FoundDate.{FoundDate}
 use Rattle.calendar.specs.declared.FoundDay.{FoundDay}
 use Rattle.calendar.specs.Gregorian.{monthLength, dateAt, daysBeforeYear, dayNumber}
-use Rattle.calendar.specs.Conversions.{lastNumber, within, isDate, toDate, fromDate}
+use Rattle.calendar.specs.Conversions.{firstNumber, lastNumber, within, isDate, toDate, fromDate}
 use Rattle.calendar.proofs.Intervals.{never-falls}
 use Rattle.calendar.proofs.Years.{years-rise, days-before-year}
 use Rattle.calendar.proofs.Dates.{Valid, date-valid, date-number, number-date, own-year}
@@ -77,4 +77,5 @@ from-to number h = rw (passes (dateAt number) (date-tested number h), date-numbe
 -- From a date to its number and back.
 pub to-from : (date : Date) → isDate date ≡ true → toDate (dayNumber date) ≡ FoundDate.Date date
 unfolding toDate
-to-from date e = rw (le-leb (dayNumber date) lastNumber (number-within date (tested date e)), number-date date (tested date e .valid))
+to-from date e =
+    rw (true-within firstNumber lastNumber (dayNumber date) (omega arith) (number-within date (tested date e)), number-date date (tested date e .valid))

@@ -7,6 +7,10 @@ use Rattle.calendar.specs.declared.FoundDate.{FoundDate}
 use Rattle.calendar.specs.declared.FoundDay.{FoundDay}
 use Rattle.calendar.specs.Gregorian.{monthLength, dateAt, dayNumber}
 
+-- The first and the last day: 1 January 2000 and 31 December 2099.
+abbrev pub firstNumber : ℕ
+firstNumber = 0
+
 abbrev pub lastNumber : ℕ
 lastNumber = 36524
 
@@ -19,7 +23,7 @@ unfoldable pub isDate : Date → Bool
 isDate date = within 2000 2099 (date .year) && within 1 12 (date .month) && within 1 (monthLength (date .year) (date .month)) (date .day)
 
 unfoldable pub toDate : ℕ → FoundDate
-toDate number = cond (leb number lastNumber) (FoundDate.Date (dateAt number)) FoundDate.None
+toDate number = cond (within firstNumber lastNumber number) (FoundDate.Date (dateAt number)) FoundDate.None
 
 unfoldable pub fromDate : Date → FoundDay
 fromDate date = cond (isDate date) (FoundDay.Day (record { number = dayNumber date })) FoundDay.None

@@ -2,7 +2,7 @@
 ghost use mathlib.Core.Path.{_≡_};
 ghost use Prim.Native.Nat.{_+_, _≤_, _<_};
 ghost use Rattle.calendar.specs.Gregorian.{leapYear, yearLength, monthLength, dateAt, daysBeforeYear, daysBeforeMonth};
-ghost use Rattle.calendar.specs.Conversions.{within, isDate, toDate, fromDate, InCentury, IsMonth};
+ghost use Rattle.calendar.specs.Conversions.{lastNumber, within, isDate, toDate, fromDate, InCentury, IsMonth};
 
 pub struct Date {
     pub year: u32,
@@ -30,6 +30,7 @@ pub enum FoundDay {
 const DAYS_BEFORE: [u32; 13] = [0, 31, 59, 90, 120, 151, 181, 212, 243, 273, 304, 334, 365];
 
 impl Day {
+    // 1 January 2000.
     pub const FIRST: Day = Day { number: 0 };
     // 31 December 2099.
     pub const LAST: Day = Day { number: 36_524 };
@@ -38,7 +39,7 @@ impl Day {
     pub fn to_date(number: u32) -> FoundDate
         ensures { λ r. ⌜ r ≡ toDate number ⌝ }
     {
-        if Day::LAST.number < number {
+        if !within(Day::FIRST.number, Day::LAST.number, number) {
             return FoundDate::None;
         }
         let year = year_of(number);
@@ -59,7 +60,8 @@ impl Day {
         if !is_date(date) {
             return FoundDay::None;
         }
-        let before = days_before_year(date.year) + days_before_month(date.year, date.month);
+        let years = Day::FIRST.number + days_before_year(date.year);
+        let before = years + days_before_month(date.year, date.month);
         FoundDay::Day(Day {
             number: before + (date.day - 1),
         })
@@ -126,7 +128,7 @@ fn within(low: u32, high: u32, n: u32) -> bool
 
 // The year that a day falls in: four years have 1,461 days, the first of them 366.
 fn year_of(number: u32) -> u32
-    requires { ⌜ number ≤ 36524 ⌝ }
+    requires { ⌜ number ≤ lastNumber ⌝ }
     ensures { λ r. ⌜ r ≡ dateAt number .year ⌝ }
 {
     let rest = number % 1_461;

@@ -100,6 +100,13 @@ fn day_of(year: u32, month: u32, day: u32) {
     }
 }
 
+fn range() {
+    text(b"first day ");
+    number(Day::FIRST.number as u64);
+    text(b"last day ");
+    number(Day::LAST.number as u64);
+}
+
 fn dates() {
     date_of(0);
     date_of(29);
@@ -132,6 +139,7 @@ fn main() {
     half_span(5_001);
     after_one_miss(40);
     after_one_miss(30);
+    range();
     dates();
     days();
 }

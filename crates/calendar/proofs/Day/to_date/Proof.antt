@@ -1,12 +1,13 @@
-use mathlib.Core.Path.{_≡_, ap, ap₂, _∙_}
-use Prim.Native.Nat.{ℕ, _+_, _-_}
+use mathlib.Core.Path.{_≡_, sym, ap, ap₂, _∙_}
+use mathlib.Core.Bool.{true}
+use Prim.Native.Nat.{ℕ, _+_, _-_, _≤_}
 use native.Mathlib.Omega.{arith}
-use borrow.Author.Tests.{le-leb, lt-leb}
+use borrow.Author.Tests.{not-true, not-false}
 use borrow.Author.Needs.{needs}
-use Rattle.calendar.specs.Conversions.{InCentury, lastNumber, toDate}
+use Rattle.calendar.specs.Conversions.{InCentury, firstNumber, lastNumber, within, toDate}
 use Rattle.calendar.specs.Gregorian.{dateAt, daysBeforeYear, daysBeforeMonth, dayNumber}
 use Rattle.calendar.proofs.Dates.{dayOfYear, date-valid, date-number, within-year}
-use Rattle.calendar.proofs.RoundTrip.{Tested, date-tested}
+use Rattle.calendar.proofs.RoundTrip.{Tested, within-true, date-tested}
 use Rattle.calendar.proofs.Day.to_date.Statement.{statement}
 use Rattle.calendar.proofs.Day.to_date.Tie as tie
 
@@ -15,9 +16,16 @@ parts : (number : ℕ) → number ≡ daysBeforeYear (dateAt number .year) + day
 unfolding dayNumber
 parts number = omega (arith, date-number number)
 
+-- the test passed
+is-within : (c : tie.Else1) → within firstNumber lastNumber (c .before .before .args .number) ≡ true
+is-within c = sym (c .before .within .ensures) ∙ not-false _ (c .if1 .left)
+
+number-most : (c : tie.Else1) → c .before .before .args .number ≤ lastNumber
+number-most c = within-true firstNumber lastNumber (c .before .before .args .number) (is-within c) .1
+
 in-century : (c : tie.After-year-of) → InCentury (c .year-of .result)
 in-century c =
-    let at : Tested (dateAt (c .before .before .before .args .number)) = date-tested (c .before .before .before .args .number) (c .before .if1 .left) in
+    let at : Tested (dateAt (c .before .before .before .args .number)) = date-tested (c .before .before .before .args .number) (number-most (c .before)) in
     rw (c .year-of .ensures) (record { from-2000 = at .valid .from-2000; to-2099 = at .to-2099 })
 
 year-over : (c : tie.After-days-before-year) → c .days-before-year .result ≡ daysBeforeYear (dateAt (c .before .before .before .before .args .number) .year)
@@ -35,10 +43,10 @@ month-over c = c .days-before-month .ensures ∙ ap₂ daysBeforeMonth (c .befor
 
 returns : tie.Need-returns
 unfolding toDate
-returns c = rw (lt-leb (c .before .before .args .number) lastNumber (c .if1 .taken))
+returns c = rw (sym (c .before .within .ensures) ∙ not-true _ (c .if1 .taken))
 
 year-of-requires : tie.Need-year-of-requires
-year-of-requires c κs = search needs
+year-of-requires c κs = number-most c
 
 days-before-year-requires : tie.Need-days-before-year-requires
 days-before-year-requires c κs = omega (arith, in-century c)
@@ -56,19 +64,20 @@ sub-day : tie.Need-sub-day
 sub-day c = omega (arith, month-over c, year-over (c .before .before), parts (c .before .before .before .before .before .before .args .number))
 
 add-day : tie.Need-add-day
-add-day c = search needs
+add-day c = omega (arith, number-most (c .before .before .before .before))
 
 returns-2 : tie.Need-returns-2
 unfolding toDate
 returns-2 c = let number = c .before .before .before .before .before .before .args .number in
     let days : number - c .before .before .days-before-year .result - c .days-before-month .result + 1 ≡ dateAt number .day =
     omega (arith, month-over c, year-over (c .before .before), parts number, date-valid number .from-first) in
-    rw (le-leb number lastNumber (c .before .before .before .before .if1 .left), c .before .before .before .year-of .ensures, month-is (c .before), days)
+    rw (is-within (c .before .before .before .before), c .before .before .before .year-of .ensures, month-is (c .before), days)
 
 pub to-date-spec : {M : Type 1} → statement M
 to-date-spec =
     tie.close
     (tie.spec
+    (λ c κs. search needs)  -- within-requires
     returns
     year-of-requires
     days-before-year-requires
