@@ -1,11 +1,9 @@
 -- What a call comes to, by the checks that decide it. Assumes nothing.
-use mathlib.Core.Path.{_≡_, refl, subst}
+use mathlib.Core.Path.{_≡_, refl, sym, subst}
 use mathlib.Core.Bool.{true, false}
-use mathlib.Core.List.{List}
 use Prim.Native.Nat.{ℕ, _≤_}
 use native.Mathlib.Omega.{arith}
 use borrow.Author.Tests.{leb-true, eq-eqb, ne-eqb, lt-ltb}
-use Rattle.meter.specs.Sharing.{volumesOf}
 use Rattle.ledger.specs.declared.Ledger.{Ledger}
 use Rattle.account.specs.declared.Account.{Account}
 use Rattle.account.specs.declared.Answer.{Answer}
@@ -15,7 +13,7 @@ use Rattle.account.specs.Limits.{itemsAllowed, creditAllowed}
 use Rattle.account.specs.Calls.{Work, work}
 use Rattle.account.specs.Whole.{whole}
 use Rattle.account.specs.Refusals.{unless, firstRefusal, lastRefusal, refusal}
-use Rattle.account.specs.Outcomes.{declined, accepted, concluded, outcome}
+use Rattle.account.specs.Outcomes.{Draft, declined, accepted, concluded, outcome}
 use Rattle.account.proofs.Passed.{passes}
 
 -- 12 and 13.
@@ -31,10 +29,14 @@ concluded-declined a w n e some = rw (← e, ne-eqb n 0 some) refl
 -- What is concluded with an answer is concluded with what that answer is.
 abbrev pub Concludes : Account → Account → Outcome → Answer → Type 0
 Concludes before after r answer =
-    (volumes : List ℕ) → answer .volumes ≡ volumesOf volumes → r ≡ concluded before (record { account = after; estimated = answer .estimated; volumes = volumes; net = answer .net; interest = answer .interest })
+    (draft : Draft answer) → r ≡ concluded before (record { account = after; estimated = answer .estimated; volumes = draft .volumes; net = answer .net; interest = answer .interest })
 
 pub concludes-with : (before after made : Account) (r : Outcome) (answer draft : Answer) → after ≡ made → answer ≡ draft → Concludes before after r answer → Concludes before made r draft
 concludes-with before after made r answer draft e f c = subst (λ x. Concludes before x r draft) e (subst (Concludes before after r) f c)
+
+-- What is a draft is so under another name.
+pub drafted : {answer draft : Answer} → answer ≡ draft → Draft draft → Draft answer
+drafted e d = subst Draft (sym e) d
 
 -- 41, then 1 to 11.
 pub outcome-not-whole : (a : Account) (call : Call) → whole a ≡ false → outcome a call ≡ declined a 41

@@ -25,6 +25,7 @@ use Rattle.account.specs.Closing.{startOf}
 use Rattle.account.specs.Calls.{standingEstimates, isCancelled}
 use Rattle.account.specs.Whole.{wholeEstimate, wholeItem, wholeLedger, wholeMeter, wholeParts, asMade, wholeStatus, whole}
 use Rattle.account.specs.Refusals.{isNew, isSupplied, isStopped}
+use Rattle.account.proofs.Made.{Made, made-facts}
 use Rattle.account.proofs.Tests.{and-left, and-right, and-intro, within-low, within-high, within-intro, either-zero, zero-either}
 
 pub fuel-within : (fuel : Fuel) → fuelAllowed fuel ≡ true → WithinFuel fuel
@@ -256,49 +257,6 @@ facts-whole New a w = w
 facts-whole (Supplied start) a w = parts-whole a (leb start (a .latest + 1)) (le-leb start (a .latest + 1) (w .0)) (w .1)
 facts-whole (Stopped stop) a w = parts-whole a (leb stop (a .latest)) (le-leb stop (a .latest) (w .0)) (w .1)
 facts-whole Cancelled a w = parts-whole a (eqb (a .ledger .held) 0) (eq-eqb (a .ledger .held) 0 (w .0)) (w .1)
-
--- A new account as made.
-pub record Made (a : Account) : Type 0 where
-  pub latest-none : a .latest ≡ 0
-  pub digits-none : a .digits ≡ 0
-  pub dial-none : a .dial ≡ 0
-  pub pool-none : a .pool ≡ 0
-  pub previous-none : a .previous ≡ 0
-  pub misses-none : a .estimates .count ≡ 0
-  pub items-none : a .ledger .count ≡ 0
-  pub held-none : a .ledger .held ≡ 0
-  pub credit-none : a .ledger .credit ≡ 0
-
-pub made-facts : (a : Account) → asMade a ≡ true → Made a
-unfolding asMade
-made-facts a e =
-    let latest = eqb (a .latest) 0 in
-    let digits = eqb (a .digits) 0 in
-    let dial = eqb (a .dial) 0 in
-    let pool = eqb (a .pool) 0 in
-    let previous = eqb (a .previous) 0 in
-    let misses = eqb (a .estimates .count) 0 in
-    let items = eqb (a .ledger .count) 0 in
-    let held = eqb (a .ledger .held) 0 in
-    let credit = eqb (a .ledger .credit) 0 in
-    let eight = and-left (latest && digits && dial && pool && previous && misses && items && held) credit e in
-    let seven = and-left (latest && digits && dial && pool && previous && misses && items) held eight in
-    let six = and-left (latest && digits && dial && pool && previous && misses) items seven in
-    let five = and-left (latest && digits && dial && pool && previous) misses six in
-    let four = and-left (latest && digits && dial && pool) previous five in
-    let three = and-left (latest && digits && dial) pool four in
-    let two = and-left (latest && digits) dial three in
-    record {
-      latest-none = eqb-true (a .latest) 0 (and-left latest digits two);
-      digits-none = eqb-true (a .digits) 0 (and-right latest digits two);
-      dial-none = eqb-true (a .dial) 0 (and-right (latest && digits) dial three);
-      pool-none = eqb-true (a .pool) 0 (and-right (latest && digits && dial) pool four);
-      previous-none = eqb-true (a .previous) 0 (and-right (latest && digits && dial && pool) previous five);
-      misses-none = eqb-true (a .estimates .count) 0 (and-right (latest && digits && dial && pool && previous) misses six);
-      items-none = eqb-true (a .ledger .count) 0 (and-right (latest && digits && dial && pool && previous && misses) items seven);
-      held-none = eqb-true (a .ledger .held) 0 (and-right (latest && digits && dial && pool && previous && misses && items) held eight);
-      credit-none = eqb-true (a .ledger .credit) 0 (and-right (latest && digits && dial && pool && previous && misses && items && held) credit e);
-    }
 
 -- What a test of the status gives on a whole account.
 pub supplied-facts : (status : Status) (a : Account) → isSupplied status ≡ true → StatusFacts status a → (startOf status ≤ a .latest + 1) × Facts a

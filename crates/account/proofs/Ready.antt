@@ -27,7 +27,8 @@ use Rattle.account.specs.Closing.{startOf, daysOf, ofThisPeriod}
 use Rattle.account.specs.Calls.{standingEstimates, poolTo, madeFinal, closingPrice, closingNet, closedLedger, paidLedger, isCancelled}
 use Rattle.account.specs.Whole.{wholeEstimate, whole}
 use Rattle.account.specs.Refusals.{readingRefusal, missRefusal, exchangeRefusal, paymentRefusal}
-use Rattle.account.proofs.Facts.{ItemFacts, MeterFacts, LedgerFacts, Facts, StatusFacts, made-facts, whole-facts, estimates-whole, supplied-facts, not-new-facts, cancelled-facts}
+use Rattle.account.proofs.Made.{made-facts}
+use Rattle.account.proofs.Facts.{ItemFacts, MeterFacts, LedgerFacts, Facts, StatusFacts, whole-facts, estimates-whole, supplied-facts, not-new-facts, cancelled-facts}
 use Rattle.account.proofs.Passed.{ReadingPassed, reading-passed, miss-passed, exchange-passed, PaymentPassed, payment-passed}
 use Rattle.account.proofs.Sound.{Sound, Bounded, load, item-later, closed-bounded}
 use Rattle.account.proofs.Sound as Sound
@@ -58,7 +59,7 @@ whole-open a e = go (a .status) (whole-facts a e)
 
     go : (status : Status) → StatusFacts status a → OpenBounds (a .ledger)
     go New w =
-        let none = made-facts a w .items-none in
+        let none : a .ledger .count ≡ 0 = ap (λ (l : Ledger). l .count) (made-facts a w .ledger-none) in
         record { count-most = omega (arith, none); items-within = subst (λ n. Every ItemBounds (take n (a .ledger .items))) (sym none) tt }
     go (Supplied start) w = of-ledger (w .1 .ledger)
     go (Stopped stop) w = of-ledger (w .1 .ledger)

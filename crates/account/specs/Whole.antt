@@ -1,9 +1,10 @@
 -- When an account handed in is whole: number 41 declines every other.
-use mathlib.Core.Bool.{Bool, cond, _&&_, _||_}
+use mathlib.Core.Bool.{Bool, true, false, cond, not, _&&_, _||_}
 use Prim.Native.Nat.{ℕ, _+_}
 use lib.Dec.{leb, eqb}
-use Rattle.lists.specs.Every.{every}
+use Rattle.lists.specs.Every.{every, same}
 use Rattle.meter.specs.declared.Estimate.{Estimate}
+use Rattle.meter.specs.declared.Estimates.{Estimates}
 use Rattle.ledger.specs.declared.Item.{Item}
 use Rattle.ledger.specs.declared.Ledger.{Ledger}
 use Rattle.ledger.specs.Interest.{isPrice}
@@ -12,20 +13,52 @@ use Rattle.account.specs.declared.Status.{Status}
 use Rattle.account.specs.declared.Status.the-variants.{New, Supplied, Stopped, Cancelled}
 use Rattle.account.specs.declared.Account.{Account}
 use Rattle.account.specs.Limits.{within, dayAllowed, digitsAllowed, onDial, fuelAllowed, missesAllowed, volumeAllowed, itemsAllowed, creditAllowed}
-use Rattle.account.specs.Calls.{standingEstimates}
+use Rattle.account.specs.Calls.{newAccount, standingEstimates}
 
--- A new account is as made: nothing in it is above 0. Places of the arrays that hold nothing are not looked at.
+-- Two marks that agree, and two places of an array, field for field.
+abbrev pub agree : Bool → Bool → Bool
+agree mark true = mark
+agree mark false = not mark
+
+abbrev pub sameEstimate : Estimate → Estimate → Bool
+sameEstimate one other =
+    agree (one .absent) (other .absent) &&
+    eqb (one .days) (other .days) &&
+    eqb (one .fuel .lng) (other .fuel .lng) &&
+    eqb (one .fuel .propane) (other .fuel .propane) &&
+    eqb (one .volume) (other .volume) &&
+    eqb (one .charged) (other .charged)
+
+abbrev pub sameItem : Item → Item → Bool
+sameItem one other =
+    agree (isPrice (one .kind)) (isPrice (other .kind)) &&
+    eqb (one .amount) (other .amount) &&
+    eqb (one .unpaid) (other .unpaid) &&
+    eqb (one .obligation) (other .obligation) &&
+    eqb (one .due) (other .due)
+
+-- A new account is as made: it equals `newAccount`, field for field, and place for place in its arrays.
+unfoldable pub madeMeter : Account → Bool
+madeMeter a =
+    eqb (a .latest) (newAccount .latest) &&
+    eqb (a .digits) (newAccount .digits) &&
+    eqb (a .dial) (newAccount .dial) &&
+    eqb (a .pool) (newAccount .pool) &&
+    eqb (a .previous) (newAccount .previous)
+
+unfoldable pub madeEstimates : Estimates → Bool
+madeEstimates estimates =
+    eqb (estimates .count) (newAccount .estimates .count) && same sameEstimate (estimates .periods) (newAccount .estimates .periods)
+
+unfoldable pub madeLedger : Ledger → Bool
+madeLedger ledger =
+    eqb (ledger .count) (newAccount .ledger .count) &&
+    eqb (ledger .held) (newAccount .ledger .held) &&
+    eqb (ledger .credit) (newAccount .ledger .credit) &&
+    same sameItem (ledger .items) (newAccount .ledger .items)
+
 unfoldable pub asMade : Account → Bool
-asMade a =
-    eqb (a .latest) 0 &&
-    eqb (a .digits) 0 &&
-    eqb (a .dial) 0 &&
-    eqb (a .pool) 0 &&
-    eqb (a .previous) 0 &&
-    eqb (a .estimates .count) 0 &&
-    eqb (a .ledger .count) 0 &&
-    eqb (a .ledger .held) 0 &&
-    eqb (a .ledger .credit) 0
+asMade a = madeMeter a && madeEstimates (a .estimates) && madeLedger (a .ledger)
 
 -- An estimate: 1 to 36,495 days, fuel as number 6 allows, volume at most 99,999, charge at most 10^8.
 unfoldable pub wholeEstimate : Estimate → Bool

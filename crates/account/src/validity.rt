@@ -1,15 +1,16 @@
-// Number 41: whether an account handed in is whole. One walk over the open items and the standing estimates.
+// Number 41: whether an account handed in is whole. One walk over the open items and the standing estimates, and of a new account over all places.
 ghost use mathlib.Core.Path.{_≡_};
 ghost use mathlib.Core.Bool.{cond};
 ghost use Prim.Native.Nat.{_≤_};
-ghost use Rattle.lists.specs.Every.{every};
+ghost use Rattle.lists.specs.Every.{every, same};
 ghost use Rattle.meter.specs.Dial.{Digits};
 ghost use Rattle.meter.specs.Sharing.{AtMostSix};
 ghost use Rattle.meter.specs.Sharing as Sharing;
 ghost use Rattle.ledger.specs.Interest.{isPrice};
-ghost use Rattle.ledger.specs.Posting.{capacity, standing};
+ghost use Rattle.ledger.specs.Posting.{blank, capacity, standing};
 ghost use Rattle.account.specs.Limits.{priceAllowed, fuelAllowed, digitsAllowed, onDial};
-ghost use Rattle.account.specs.Whole.{asMade, wholeEstimate, wholeItem, wholeLedger, wholeMeter, wholeParts, whole};
+ghost use Rattle.account.specs.Calls.{newAccount};
+ghost use Rattle.account.specs.Whole.{sameEstimate, sameItem, madeMeter, madeEstimates, madeLedger, asMade, wholeEstimate, wholeItem, wholeLedger, wholeMeter, wholeParts, whole};
 use crate::Account;
 use crate::Status;
 use ledger::Item;
@@ -34,9 +35,18 @@ pub fn is_whole(account: Account) -> bool
     }
 }
 
-// A new account is as made.
+// A new account is as made, in every field and in every place of its arrays.
 fn as_made(account: Account) -> bool
     ensures { λ r. ⌜ r ≡ asMade account ⌝ }
+{
+    if !made_meter(account) {
+        return false;
+    }
+    made_estimates(account.estimates) && made_ledger(account.ledger)
+}
+
+fn made_meter(account: Account) -> bool
+    ensures { λ r. ⌜ r ≡ madeMeter account ⌝ }
 {
     if account.latest != 0 {
         return false;
@@ -50,19 +60,108 @@ fn as_made(account: Account) -> bool
     if account.pool != 0 {
         return false;
     }
-    if account.previous != 0 {
+    account.previous == 0
+}
+
+fn made_estimates(estimates: Estimates) -> bool
+    ensures { λ r. ⌜ r ≡ madeEstimates estimates ⌝ }
+{
+    if estimates.count != 0 {
         return false;
     }
-    if account.estimates.count != 0 {
+    blank_estimates(estimates)
+}
+
+fn blank_estimates(estimates: Estimates) -> bool
+    ensures { λ r. ⌜ r ≡ same sameEstimate (estimates .periods) (newAccount .estimates .periods) ⌝ }
+{
+    let mut i: usize = 0;
+    while i < 6 {
+        let estimate = estimates.periods[i];
+        if !blank_estimate(estimate) {
+            return false;
+        }
+        i += 1;
+    }
+    true
+}
+
+fn blank_estimate(estimate: Estimate) -> bool
+    ensures { λ r. ⌜ r ≡ sameEstimate estimate Sharing.blank ⌝ }
+{
+    if estimate.absent {
         return false;
     }
-    if account.ledger.count != 0 {
+    if estimate.days != 0 {
         return false;
     }
-    if account.ledger.held != 0 {
+    if estimate.fuel.lng != 0 {
         return false;
     }
-    account.ledger.credit == 0
+    if estimate.fuel.propane != 0 {
+        return false;
+    }
+    if estimate.volume != 0 {
+        return false;
+    }
+    estimate.charged == 0
+}
+
+fn made_ledger(ledger: Ledger) -> bool
+    ensures { λ r. ⌜ r ≡ madeLedger ledger ⌝ }
+{
+    if ledger.count != 0 {
+        return false;
+    }
+    if ledger.held != 0 {
+        return false;
+    }
+    if ledger.credit != 0 {
+        return false;
+    }
+    blank_items(ledger)
+}
+
+fn blank_items(ledger: Ledger) -> bool
+    ensures { λ r. ⌜ r ≡ same sameItem (ledger .items) (newAccount .ledger .items) ⌝ }
+{
+    let mut i: usize = 0;
+    while i < 72 {
+        let item = ledger.items[i];
+        if !blank_item(item) {
+            return false;
+        }
+        i += 1;
+    }
+    true
+}
+
+fn blank_item(item: Item) -> bool
+    ensures { λ r. ⌜ r ≡ sameItem item blank ⌝ }
+{
+    let kind = item.kind;
+    if is_price(kind) {
+        return false;
+    }
+    if item.amount != 0 {
+        return false;
+    }
+    if item.unpaid != 0 {
+        return false;
+    }
+    if item.obligation != 0 {
+        return false;
+    }
+    item.due == 0
+}
+
+fn is_price(kind: Kind) -> bool
+    ensures { λ r. ⌜ r ≡ isPrice kind ⌝ }
+{
+    match kind {
+        Kind::Interest => false,
+        Kind::Price => true,
+    }
 }
 
 fn whole_parts(account: Account) -> bool
@@ -179,9 +278,10 @@ fn whole_item(latest: u16, item: Item) -> bool
 fn amount_limit(kind: Kind) -> u64
     ensures { λ r. ⌜ r ≡ cond (isPrice kind) 1000000000 1000000000000 ⌝ }
 {
-    match kind {
-        Kind::Interest => 1_000_000_000_000,
-        Kind::Price => 1_000_000_000,
+    if is_price(kind) {
+        1_000_000_000
+    } else {
+        1_000_000_000_000
     }
 }
 

@@ -1,8 +1,8 @@
 // The ten calls on an account that is known to be whole: checks 1 to 11, the work, then 12 and 13.
 ghost use mathlib.Core.Path.{_≡_};
 ghost use mathlib.Core.Bool.{true};
-ghost use mathlib.Core.List.{List, [], _∷_, _++_};
-ghost use Prim.Native.Nat.{ℕ, _≤_, _<_};
+ghost use mathlib.Core.List.{[], _∷_, _++_};
+ghost use Prim.Native.Nat.{_≤_, _<_};
 ghost use lib.IntN.{pos};
 ghost use Rattle.meter.specs.Sharing.{standing, volumesOf};
 ghost use Rattle.ledger.specs.Posting.{capacity, OpenBounds};
@@ -10,7 +10,7 @@ ghost use Rattle.account.specs.Closing.{stopOf, resumedStart, storedEsti
 ghost use Rattle.account.specs.Calls.{begun, read, cancelled, missed, exchanged, payment, stoppedCancellation, work};
 ghost use Rattle.account.specs.Whole.{whole};
 ghost use Rattle.account.specs.Refusals.{isStopped, begins, readingRefusal, missRefusal, dialRefusal, exchangeRefusal, paymentRefusal, firstRefusal};
-ghost use Rattle.account.specs.Outcomes.{declined, concluded, outcome};
+ghost use Rattle.account.specs.Outcomes.{Draft, declined, concluded, outcome};
 use crate::Account;
 use crate::Answer;
 use crate::Call;
@@ -78,9 +78,9 @@ pub fn decline(account: Account, number: u8) -> Outcome
 
 // 12 and 13, and what stands on the ledger when the call ends.
 fn finish(before: Account, after: Account, mut answer: Answer) -> Outcome
-    requires { ⌜ answer .number ≡ 0 ⌝ }
+    requires { ⌜ Draft answer ⌝ }
     requires { ⌜ (after .ledger .count ≤ capacity → OpenBounds (after .ledger)) ⌝ }
-    ensures { λ r. ⌜ ((volumes : List ℕ) → answer .volumes ≡ volumesOf volumes → r ≡ concluded before (record { account = after; estimated = answer .estimated; volumes = volumes; net = answer .net; interest = answer .interest })) ⌝ }
+    ensures { λ r. ⌜ ((draft : Draft answer) → r ≡ concluded before (record { account = after; estimated = answer .estimated; volumes = draft .volumes; net = answer .net; interest = answer .interest })) ⌝ }
 {
     let ledger = after.ledger;
     let number = limit_refusal(ledger);

@@ -114,3 +114,9 @@ NetBounds net = (chargeOf net ≤ 1000000000) × (creditOf net ≤ 1000000000)
 pub record Ready (s : Standing) : Type 0 where
   pub settled : (s .credit ≡ 0) ⊎ (s .open-items ≡ [])
   pub none-at-zero : Every (λ item. 1 ≤ item .unpaid) (s .open-items)
+
+-- A ledger on which such a standing is stored. Inside a call it may count more items than the array shows.
+pub record Stands (ledger : Ledger) : Type 0 where
+  pub on : Standing
+  pub is-stored : ledger ≡ stored on
+  pub is-ready : Ready on

@@ -1,15 +1,14 @@
 // The ledger of an account: the queue of open items, settling, posting and late interest. Articles 20(1), 27 and 28 of the supply terms.
 ghost use mathlib.Core.Path.{_≡_};
 ghost use mathlib.Core.Bool.{true};
-ghost use mathlib.Core.List.{List, [], _∷_, _++_};
+ghost use mathlib.Core.List.{[]};
 ghost use Prim.Native.Nat.{_+_, _≤_};
-ghost use lib.ListN.{length, take, drop};
+ghost use lib.ListN.{set, take, drop};
 ghost use Rattle.lists.specs.Pad.{pad};
-ghost use Rattle.ledger.specs.declared.Item.{Item};
 ghost use Rattle.ledger.specs.Interest.{isPrice, body, interestOn};
 ghost use Rattle.ledger.specs.Settling.{unpaidOf};
 ghost use Rattle.ledger.specs.Oldest.{oldest, withOldest};
-ghost use Rattle.ledger.specs.Posting.{Standing, stored, standing, entered, post, closed, paid, heldPosted, coverage, blank, capacity, chargeOf, creditOf, OpenBounds, LedgerBounds, NetBounds, Ready};
+ghost use Rattle.ledger.specs.Posting.{stored, standing, entered, post, closed, paid, heldPosted, coverage, blank, capacity, chargeOf, creditOf, OpenBounds, LedgerBounds, NetBounds, Stands};
 
 pub enum Kind {
     Interest,
@@ -158,7 +157,8 @@ impl Ledger {
     fn post_item(mut self, kind: Kind, day: u16, amount: u64) -> Ledger
         requires { ⌜ day ≤ 36494 ⌝ }
         requires { ⌜ self .count ≤ 80 ⌝ }
-        ensures { λ r. ⌜ ((s : Standing) → self ≡ stored s → Ready s → r ≡ stored (post day 0 (entered kind day amount) s)) ⌝ }
+        requires { ⌜ Stands self ⌝ }
+        ensures { λ r. ⌜ ((s : Stands self) → r ≡ stored (post day 0 (entered kind day amount) (s .on))) ⌝ }
     {
         let credit = self.credit;
         if amount <= credit {
@@ -203,7 +203,8 @@ impl Ledger {
     pub fn post_held(self, day: u16) -> Ledger
         requires { ⌜ day ≤ 36494 ⌝ }
         requires { ⌜ self .count ≤ 80 ⌝ }
-        ensures { λ r. ⌜ ((s : Standing) → self ≡ stored s → Ready s → r ≡ stored (heldPosted day s)) ⌝ }
+        requires { ⌜ Stands self ⌝ }
+        ensures { λ r. ⌜ ((s : Stands self) → r ≡ stored (heldPosted day (s .on))) ⌝ }
     {
         let held = self.held;
         let mut ledger = self;
@@ -212,9 +213,9 @@ impl Ledger {
     }
 }
 
-// The items with one more behind them, where there is room for it.
+// The items with one more at a place, where the array has it.
 fn with_item(items: [Item; 72], at: usize, item: Item) -> [Item; 72]
-    ensures { λ r. ⌜ ((open-items : List Item) → items ≡ pad capacity blank (take capacity open-items) → at ≡ length open-items → r ≡ pad capacity blank (take capacity (open-items ++ (item ∷ [])))) ⌝ }
+    ensures { λ r. ⌜ r ≡ set items at item ⌝ }
 {
     let mut out = items;
     if at < 72 {
@@ -264,7 +265,7 @@ fn body_of(amount: u64) -> u64
 }
 
 // The interest of an item that is settled on a day: 27.
-pub fn interest_on(item: Item, day: u16) -> u64
+fn interest_on(item: Item, day: u16) -> u64
     requires { ⌜ (isPrice (item .kind) ≡ true → item .amount ≤ 1000000000) ⌝ }
     ensures { λ r. ⌜ r ≡ interestOn item day ⌝ }
 {

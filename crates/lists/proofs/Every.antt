@@ -1,12 +1,13 @@
 -- What holds of every element of a list. Assumes nothing.
 use mathlib.Core.Path.{_≡_, refl}
-use mathlib.Core.Bool.{Bool, true, false, and-eq-true-iff, and-false}
+use mathlib.Core.Bool.{Bool, true, false, and-eq-true-iff, and-false, false≢true}
 use mathlib.Core.List.{List, [], _∷_, _++_, reverse, reverse-cons}
 use Prim.Native.Nat.{ℕ, zero, suc, _-_, _<_}
-use native.Mathlib.Nat.{not-suc-le-zero, le-of-suc-le-suc}
+use native.Mathlib.Nat.{not-suc-le-zero, le-of-suc-le-suc, suc-inj}
+use native.Mathlib.Omega.{arith}
 use lib.ListN.{length, getD, take, replicate}
 use Rattle.lists.specs.Pad.{pad}
-use Rattle.lists.specs.Every.{every, Every}
+use Rattle.lists.specs.Every.{every, Every, same}
 
 module _ {A : Type 0} (P : A → Type 0) where
   pub every-append : (xs ys : List A) → Every P xs → Every P ys → Every P (xs ++ ys)
@@ -69,3 +70,19 @@ every-pad P size blank xs b e = every-append P xs (replicate (size - length xs) 
     blanks : (n : ℕ) → Every P (replicate n blank)
     blanks zero = tt
     blanks (suc n) = (b, blanks n)
+
+-- Lists that agree are equal, where elements that agree are.
+pub same-equal : {A : Type 0} (agree : A → A → Bool) → ((x y : A) → agree x y ≡ true → x ≡ y) → (xs ys : List A) → same agree xs ys ≡ true → xs ≡ ys
+same-equal agree equal [] [] e = refl
+same-equal agree equal [] (y ∷ ys) e = absurd (false≢true e)
+same-equal agree equal (x ∷ xs) [] e = absurd (false≢true e)
+same-equal agree equal (x ∷ xs) (y ∷ ys) e =
+    let both = and-eq-true-iff (agree x y) (same agree xs ys) .0 e in
+    rw (equal x y (both .0), same-equal agree equal xs ys (both .1))
+
+-- To agree with a run of one element is a test of each element.
+pub same-replicate : {A : Type 0} (agree : A → A → Bool) (y : A) (xs : List A) (n : ℕ) → length xs ≡ n → same agree xs (replicate n y) ≡ every (λ x. agree x y) (take n xs)
+same-replicate agree y [] zero e = refl
+same-replicate agree y [] (suc n) e = let never : ⊥ = omega arith in absurd never
+same-replicate agree y (x ∷ xs) zero e = let never : ⊥ = omega arith in absurd never
+same-replicate agree y (x ∷ xs) (suc n) e = rw (same-replicate agree y xs n (suc-inj e))

@@ -1,11 +1,14 @@
 -- Laws of padded lists. Assumes nothing.
 use mathlib.Core.Path.{_≡_, refl, ap, sym, _∙_}
 use mathlib.Core.List.{List, [], _∷_, _++_, map, map-append}
+use mathlib.Core.Bool.{Bool, true, false}
 use Prim.Native.Nat.{ℕ, zero, suc, _-_, _≤_, _<_}
 use native.Mathlib.Nat.{le-of-lt, sub-zero, zero-sub, suc-sub-suc}
 use native.Mathlib.Omega.{arith}
+use lib.Dec.{leb}
 use lib.ListN.{length, length-append, length-map, replicate, length-replicate, getD, set, take, drop, List·getD-append}
-use lib.Seq.{take-append-seam, take-append-le, take-all, take-nil, take-suc, length-take-le, set-at, append-snoc}
+use lib.Seq.{take-append-seam, take-append-le, take-all, take-nil, take-suc, length-take-le, set-at, set-out, append-snoc}
+use borrow.Author.Tests.{leb-true, leb-false}
 use Rattle.lists.specs.Pad.{pad}
 
 module _ {A : Type 0} (blank : A) where
@@ -57,14 +60,19 @@ drop-take (suc n) (suc m) [] = sym (take-nil (suc m - suc n))
 drop-take (suc n) (suc m) (x ∷ xs) = drop-take n m xs ∙ ap (λ k. take k (drop n xs)) (sym (suc-sub-suc m n))
 
 -- One more element behind a list of which an array holds the front: it is stored where there is room, and else left out.
-pub pad-push : {A : Type 0} (blank : A) (size : ℕ) (xs : List A) (x : A) → length xs < size → set (pad size blank (take size xs)) (length xs) x ≡ pad size blank (take size (xs ++ (x ∷ [])))
-pad-push blank size xs x h =
-    let all : take size xs ≡ xs = take-all size xs (le-of-lt h) in
-    let more : take size (xs ++ (x ∷ [])) ≡ xs ++ (x ∷ []) = take-all size (xs ++ (x ∷ [])) (rw (length-append xs (x ∷ [])) (omega arith)) in
-    rw (all, more) (pad-store blank size (length xs) xs x refl h)
-
-pub pad-full : {A : Type 0} (blank : A) (size : ℕ) (xs : List A) (x : A) → size ≤ length xs → pad size blank (take size xs) ≡ pad size blank (take size (xs ++ (x ∷ [])))
-pad-full blank size xs x h = ap (pad size blank) (sym (take-append-le size xs (x ∷ []) h))
+pub pad-push : {A : Type 0} (blank : A) (size : ℕ) (xs : List A) (x : A) → set (pad size blank (take size xs)) (length xs) x ≡ pad size blank (take size (xs ++ (x ∷ [])))
+pad-push blank size xs x = go (leb size (length xs)) refl
+  where
+    go : (full : Bool) → leb size (length xs) ≡ full → set (pad size blank (take size xs)) (length xs) x ≡ pad size blank (take size (xs ++ (x ∷ [])))
+    go true e =
+        let h : size ≤ length xs = leb-true size (length xs) e in
+        let long : length (pad size blank (take size xs)) ≡ size = length-pad blank size (take size xs) (omega (arith, length-take-le size xs h)) in
+        set-out (pad size blank (take size xs)) (length xs) x (omega arith) ∙ ap (pad size blank) (sym (take-append-le size xs (x ∷ []) h))
+    go false e =
+        let h : length xs < size = leb-false size (length xs) e in
+        let all : take size xs ≡ xs = take-all size xs (le-of-lt h) in
+        let more : take size (xs ++ (x ∷ [])) ≡ xs ++ (x ∷ []) = take-all size (xs ++ (x ∷ [])) (rw (length-append xs (x ∷ [])) (omega arith)) in
+        rw (all, more) (pad-store blank size (length xs) xs x refl h)
 
 pub length-take-most : {A : Type 0} (n : ℕ) (xs : List A) → length (take n xs) ≤ n
 length-take-most zero xs = omega arith

@@ -15,7 +15,7 @@ use Rattle.account.proofs.Facts.{LedgerFacts, whole-facts, stopped-fact
 use Rattle.account.proofs.Passed.{Begun, begun}
 use Rattle.account.proofs.Sound.{Sound, posted-sound}
 use Rattle.account.proofs.Ready.{ledger-bounds, items-later, sound-open}
-use Rattle.account.proofs.Concluding.{concludes-with}
+use Rattle.account.proofs.Concluding.{concludes-with, drafted}
 use borrow.Author.Needs.{needs}
 use Rattle.account.proofs.whole.cancel_stopped.Statement.{statement}
 use Rattle.account.proofs.whole.cancel_stopped.Tie as tie
@@ -40,13 +40,13 @@ quiet-answer-requires c κs = search needs
 
 finish-requires : tie.Need-finish-requires
 finish-requires c κs = let day = c .before .before .before .before .args .day in
-    (ap (λ (answer : Answer). answer .number) (c .quiet-answer .ensures), subst (λ (l : Ledger). l .count ≤ capacity → OpenBounds l) (sym (posted-is (c .before .before))) (sound-open day (heldPosted day (standing (c .before .before .before .before .args .account .ledger))) (after-posted (c .before .before .before .before))))
+    (drafted (c .quiet-answer .ensures) (record { number-none = refl; volumes = []; volumes-are = refl }), subst (λ (l : Ledger). l .count ≤ capacity → OpenBounds l) (sym (posted-is (c .before .before))) (sound-open day (heldPosted day (standing (c .before .before .before .before .args .account .ledger))) (after-posted (c .before .before .before .before))))
 
 returns : tie.Need-returns
 returns c = let a = c .before .before .before .before .before .args .account in
     let day = c .before .before .before .before .before .args .day in
     concludes-with a (withLedger a day Cancelled (c .before .before .before .close .result)) (withLedger a day Cancelled (stored (heldPosted day (standing (a .ledger))))) (c .finish .result) (c .before .quiet-answer .result) (record { number = 0; estimated = 0; volumes = volumesOf []; net = pos 0; interest = a .ledger .held; unpaid = 0; credit = 0 })
-    (ap (withLedger a day Cancelled) (posted-is (c .before .before .before))) (c .before .quiet-answer .ensures) (c .finish .ensures) [] refl
+    (ap (withLedger a day Cancelled) (posted-is (c .before .before .before))) (c .before .quiet-answer .ensures) (c .finish .ensures) (record { number-none = refl; volumes = []; volumes-are = refl })
 
 pub cancel-stopped-spec : {M : Type 1} → statement M
 cancel-stopped-spec =

@@ -18,7 +18,7 @@ use Rattle.account.specs.Closing.{startOf, daysOf, storedEstimates}
 use Rattle.account.specs.Calls.{standingEstimates, estimateOf, missed}
 use Rattle.account.proofs.Sound.{Bounded}
 use Rattle.account.proofs.Ready.{MissReady, miss-ready, charge-bounds, ledger-bounds, ledger-closed, sound-open}
-use Rattle.account.proofs.Concluding.{concludes-with}
+use Rattle.account.proofs.Concluding.{concludes-with, drafted}
 use Rattle.account.proofs.whole.close_estimated.Statement.{statement}
 use Rattle.account.proofs.whole.close_estimated.Tie as tie
 
@@ -86,14 +86,14 @@ estimate-answer-requires : tie.Need-estimate-answer-requires
 estimate-answer-requires c κs = charged-most (c .before .before)
 
 finish-requires : tie.Need-finish-requires
-finish-requires c κs = (ap (λ (answer : Answer). answer .number) (c .estimate-answer .ensures), subst (λ (ledger : Ledger). ledger .count ≤ capacity → OpenBounds ledger) (sym (ledger-is (c .before))) (sound-open (c .before .before .before .before .before .before .before .args .day) (afterLedger (c .before .before .before .before .before .before .before)) (after-closed (c .before .before .before .before .before .before .before) .sound)))
+finish-requires c κs = (drafted (c .estimate-answer .ensures) (record { number-none = refl; volumes = []; volumes-are = refl }), subst (λ (ledger : Ledger). ledger .count ≤ capacity → OpenBounds ledger) (sym (ledger-is (c .before))) (sound-open (c .before .before .before .before .before .before .before .args .day) (afterLedger (c .before .before .before .before .before .before .before)) (after-closed (c .before .before .before .before .before .before .before) .sound)))
 
 returns : tie.Need-returns
 unfolding afterLedger
 returns c = concludes-with (c .before .before .before .before .before .before .before .before .args .account) (record { status = Supplied (c .before .before .before .before .before .before .before .before .args .day + 1); latest = c .before .before .before .before .before .before .before .before .args .day; digits = c .before .before .before .before .before .before .before .before .args .account .digits; dial = c .before .before .before .before .before .before .before .before .args .account .dial; pool = c .before .before .before .before .before .before .before .before .args .account .pool; previous = c .before .before .before .before .before .before .before .before .args .volume; estimates = c .before .before .before .with-estimate .result; ledger = c .before .before .close .result }) (missed (c .before .before .before .before .before .before .before .before .args .account) (c .before .before .before .before .before .before .before .before .args .day) (c .before .before .before .before .before .before .before .before .args .fuel) (c .before .before .before .before .before .before .before .before .args .absent) (c .before .before .before .before .before .before .before .before .args .volume) .account) (c .finish .result) (c .before .estimate-answer .result) (record { number = 0; estimated = c .before .before .before .before .before .before .before .before .args .volume; volumes = volumesOf []; net = pos (priceOf (daysOf (startOf (c .before .before .before .before .before .before .before .before .args .account .status)) (c .before .before .before .before .before .before .before .before .args .day)) (c .before .before .before .before .before .before .before .before .args .fuel) (c .before .before .before .before .before .before .before .before .args .volume)); interest = c .before .before .before .before .before .before .before .before .args .account .ledger .held; unpaid = 0; credit = 0 })
     (λ i. record { status = Supplied (c .before .before .before .before .before .before .before .before .args .day + 1); latest = c .before .before .before .before .before .before .before .before .args .day; digits = c .before .before .before .before .before .before .before .before .args .account .digits; dial = c .before .before .before .before .before .before .before .before .args .account .dial; pool = c .before .before .before .before .before .before .before .before .args .account .pool; previous = c .before .before .before .before .before .before .before .before .args .volume; estimates = estimates-are (c .before .before .before) i; ledger = ledger-is (c .before .before) i })
     (c .before .estimate-answer .ensures ∙ ap (λ charged. record { number = 0; estimated = c .before .before .before .before .before .before .before .before .args .volume; volumes = volumesOf []; net = pos charged; interest = c .before .before .before .before .before .before .before .before .args .account .ledger .held; unpaid = 0; credit = 0 }) (charged-is (c .before .before .before .before)))
-    (c .finish .ensures) [] refl
+    (c .finish .ensures) (record { number-none = refl; volumes = []; volumes-are = refl })
 
 pub close-estimated-spec : {M : Type 1} → statement M
 close-estimated-spec =

@@ -12,7 +12,7 @@ use Rattle.account.specs.Closing.{storedEstimates}
 use Rattle.account.specs.Calls.{madeFinal, closingNet, closedLedger, afterReading}
 use Rattle.account.proofs.Sound.{Bounded}
 use Rattle.account.proofs.Ready.{reading-ready, reading-closed, sound-open}
-use Rattle.account.proofs.Concluding.{concludes-with}
+use Rattle.account.proofs.Concluding.{concludes-with, drafted}
 use Rattle.account.proofs.whole.close_reading.Statement.{statement}
 use Rattle.account.proofs.whole.close_reading.Tie as tie
 
@@ -40,10 +40,10 @@ closing-answer-requires c κs = search needs
 
 finish-requires : tie.Need-finish-requires
 finish-requires c κs = let same = ap (λ (a : Account). a .ledger) (after-is (c .before)) in
-    (ap (λ (answer : Answer). answer .number) (answer-is c), subst (λ (ledger : Ledger). ledger .count ≤ capacity → OpenBounds ledger) (sym same) (sound-open (c .before .before .before .args .day) (closedLedger (c .before .before .before .args .account) (c .before .before .before .args .day) (c .before .before .before .args .reading) (c .before .before .before .args .fuel)) (after-closed (c .before .before .before) .sound)))
+    (drafted (answer-is c) (record { number-none = refl; volumes = madeFinal (c .before .before .before .args .account) (c .before .before .before .args .day) (c .before .before .before .args .reading) (c .before .before .before .args .fuel); volumes-are = refl }), subst (λ (ledger : Ledger). ledger .count ≤ capacity → OpenBounds ledger) (sym same) (sound-open (c .before .before .before .args .day) (closedLedger (c .before .before .before .args .account) (c .before .before .before .args .day) (c .before .before .before .args .reading) (c .before .before .before .args .fuel)) (after-closed (c .before .before .before) .sound)))
 
 returns : tie.Need-returns
-returns c = concludes-with (c .before .before .before .before .args .account) (c .before .before .after-reading .result) (afterReading (c .before .before .before .before .args .account) (c .before .before .before .before .args .day) (c .before .before .before .before .args .reading) (c .before .before .before .before .args .fuel) (c .before .before .before .before .args .status) (stored (closedLedger (c .before .before .before .before .args .account) (c .before .before .before .before .args .day) (c .before .before .before .before .args .reading) (c .before .before .before .before .args .fuel)))) (c .finish .result) (c .before .closing-answer .result) (record { number = 0; estimated = 0; volumes = volumesOf (madeFinal (c .before .before .before .before .args .account) (c .before .before .before .before .args .day) (c .before .before .before .before .args .reading) (c .before .before .before .before .args .fuel)); net = closingNet (c .before .before .before .before .args .account) (c .before .before .before .before .args .day) (c .before .before .before .before .args .reading) (c .before .before .before .before .args .fuel); interest = c .before .before .before .before .args .account .ledger .held; unpaid = 0; credit = 0 }) (after-is (c .before .before)) (answer-is (c .before)) (c .finish .ensures) (madeFinal (c .before .before .before .before .args .account) (c .before .before .before .before .args .day) (c .before .before .before .before .args .reading) (c .before .before .before .before .args .fuel)) refl
+returns c = concludes-with (c .before .before .before .before .args .account) (c .before .before .after-reading .result) (afterReading (c .before .before .before .before .args .account) (c .before .before .before .before .args .day) (c .before .before .before .before .args .reading) (c .before .before .before .before .args .fuel) (c .before .before .before .before .args .status) (stored (closedLedger (c .before .before .before .before .args .account) (c .before .before .before .before .args .day) (c .before .before .before .before .args .reading) (c .before .before .before .before .args .fuel)))) (c .finish .result) (c .before .closing-answer .result) (record { number = 0; estimated = 0; volumes = volumesOf (madeFinal (c .before .before .before .before .args .account) (c .before .before .before .before .args .day) (c .before .before .before .before .args .reading) (c .before .before .before .before .args .fuel)); net = closingNet (c .before .before .before .before .args .account) (c .before .before .before .before .args .day) (c .before .before .before .before .args .reading) (c .before .before .before .before .args .fuel); interest = c .before .before .before .before .args .account .ledger .held; unpaid = 0; credit = 0 }) (after-is (c .before .before)) (answer-is (c .before)) (c .finish .ensures) (record { number-none = refl; volumes = madeFinal (c .before .before .before .before .args .account) (c .before .before .before .before .args .day) (c .before .before .before .before .args .reading) (c .before .before .before .before .args .fuel); volumes-are = refl })
 
 pub close-reading-spec : {M : Type 1} → statement M
 close-reading-spec =

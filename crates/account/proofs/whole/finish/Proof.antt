@@ -1,29 +1,62 @@
 use mathlib.Core.Path.{sym, _∙_}
-use borrow.Author.Needs.{needs}
+use Rattle.account.specs.declared.Answer.{Answer}
+use Rattle.account.specs.Calls.{Work}
+use Rattle.account.specs.Outcomes.{Draft}
 use Rattle.account.proofs.Concluding.{places-left, concluded-accepted, concluded-declined}
 use Rattle.account.proofs.whole.finish.Statement.{statement}
 use Rattle.account.proofs.whole.finish.Tie as tie
 
-limit-refusal-requires : tie.Need-limit-refusal-requires
-limit-refusal-requires c κs = search needs
-
-decline-requires : tie.Need-decline-requires
-decline-requires c κs = search needs
+-- the work that is concluded
+abbrev worked : (s : tie.Start) → Draft (s .args .answer) → Work
+worked s draft =
+    record {
+      account = s .args .after;
+      estimated = s .args .answer .estimated;
+      volumes = draft .volumes;
+      net = s .args .answer .net;
+      interest = s .args .answer .interest;
+    }
 
 returns : tie.Need-returns
-returns c = λ volumes same. c .decline .ensures ∙ sym (concluded-declined (c .before .before .before .before .args .before) (record { account = c .before .before .before .before .args .after; estimated = c .before .before .before .before .args .answer .estimated; volumes = volumes; net = c .before .before .before .before .args .answer .net; interest = c .before .before .before .before .args .answer .interest }) (c .before .before .limit-refusal .result) (c .before .before .limit-refusal .ensures) (c .before .if1 .taken))
+returns c = λ draft.
+    let start : tie.Start = search in
+    let refused : tie.Then1 = search in
+    let asked : tie.After-limit-refusal = search in
+    c .decline .ensures ∙
+    sym (concluded-declined (start .args .before) (worked start draft) (asked .limit-refusal .result) (asked .limit-refusal .ensures) (refused .if1 .taken))
 
 unpaid-requires : tie.Need-unpaid-requires
-unpaid-requires c κs = c .before .before .before .pre .1 (places-left (c .before .before .before .args .after .ledger) (sym (c .before .limit-refusal .ensures) ∙ c .if1 .left))
+unpaid-requires c κs =
+    let start : tie.Start = search in
+    start .pre .1 (places-left (start .args .after .ledger) (sym (c .before .limit-refusal .ensures) ∙ c .if1 .left))
 
 returns-2 : tie.Need-returns-2
-returns-2 c = λ volumes same.
+returns-2 c = λ draft.
+    let start : tie.Start = search in
+    let passed : tie.Else1 = search in
+    let asked : tie.After-limit-refusal = search in
+    let answer = start .args .answer in
     (λ i. record {
-      account = c .before .before .before .before .args .after;
-      answer = record { number = c .before .before .before .before .pre .0 i; estimated = c .before .before .before .before .args .answer .estimated; volumes = same i; net = c .before .before .before .before .args .answer .net; interest = c .before .before .before .before .args .answer .interest; unpaid = c .unpaid .ensures i; credit = c .before .before .before .before .args .after .ledger .credit };
+      account = start .args .after;
+      answer =
+          record {
+            number = draft .number-none i;
+            estimated = answer .estimated;
+            volumes = draft .volumes-are i;
+            net = answer .net;
+            interest = answer .interest;
+            unpaid = c .unpaid .ensures i;
+            credit = start .args .after .ledger .credit;
+          };
     }) ∙
-    sym (concluded-accepted (c .before .before .before .before .args .before) (record { account = c .before .before .before .before .args .after; estimated = c .before .before .before .before .args .answer .estimated; volumes = volumes; net = c .before .before .before .before .args .answer .net; interest = c .before .before .before .before .args .answer .interest }) (sym (c .before .before .limit-refusal .ensures) ∙ c .before .if1 .left))
+    sym (concluded-accepted (start .args .before) (worked start draft) (sym (asked .limit-refusal .ensures) ∙ passed .if1 .left))
 
 pub finish-spec : {M : Type 1} → statement M
 finish-spec =
-    tie.close (tie.spec limit-refusal-requires decline-requires returns unpaid-requires returns-2)
+    tie.close
+    (tie.spec
+    (λ c κs. tt)  -- limit-refusal-requires
+    (λ c κs. tt)  -- decline-requires
+    returns
+    unpaid-requires
+    returns-2)

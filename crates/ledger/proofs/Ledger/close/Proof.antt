@@ -8,7 +8,7 @@ use borrow.Author.Needs.{needs}
 use Rattle.lists.proofs.Pad.{length-of-mapped}
 use Rattle.lists.proofs.Every.{every-map}
 use Rattle.ledger.specs.declared.Kind.the-variants.{Interest}
-use Rattle.ledger.specs.Posting.{Standing, standing, stored, noneHeld, entered, post, paid, chargeOf, creditOf, ItemBounds, Ready}
+use Rattle.ledger.specs.Posting.{Standing, standing, stored, noneHeld, entered, post, paid, chargeOf, creditOf, ItemBounds, Ready, Stands}
 use Rattle.ledger.proofs.Bounds.{open-count}
 use Rattle.ledger.proofs.Posting.{post-count, post-ready, entered-count, entered-owing, closed-steps}
 use Rattle.ledger.proofs.Ledger.close.Statement.{statement}
@@ -42,12 +42,15 @@ paid-count c =
     let long : length (c .args .self .items) ≡ 72 = search (length-of-mapped, needs) in
     omega (arith, post-count (c .args .day) (creditOf (c .args .net)) [] (noneHeld (standing (c .args .self))), open-count (c .args .self) (c .pre .0 .open-bounds) long, c .pre .0 .open-bounds .count-most)
 
+abbrev paid-stands : (c : tie.After-pay) → Stands (c .pay .result)
+paid-stands c = record { on = with-credit (c .before .before); is-stored = paid-is c; is-ready = paid-ready (c .before .before) }
+
 paid-most : (c : tie.After-pay) → c .pay .result .count ≤ 72
 paid-most c = rw (paid-is c) (paid-count (c .before .before))
 
 held-is : (c : tie.After-post-item) → c .post-item .result ≡ stored (with-held (c .before .before .before))
 unfolding with-held
-held-is c = c .post-item .ensures (with-credit (c .before .before .before)) (paid-is (c .before)) (paid-ready (c .before .before .before))
+held-is c = c .post-item .ensures (paid-stands (c .before))
 
 held-most : (c : tie.After-post-item) → c .post-item .result .count ≤ 80
 unfolding with-held
@@ -61,6 +64,10 @@ held-ready : (c : tie.Start) → Ready (with-held c)
 unfolding with-held
 held-ready c = post-ready (c .args .day) 0 (entered Interest (c .args .day) (c .args .self .held)) (with-credit c) (paid-ready c .none-at-zero) (entered-owing Interest (c .args .day) (c .args .self .held))
 
+abbrev held-stands : (c : tie.After-post-item) → Stands (c .post-item .result)
+held-stands c =
+    record { on = with-held (c .before .before .before); is-stored = held-is c; is-ready = held-ready (c .before .before .before) }
+
 credit-of-requires : tie.Need-credit-of-requires
 credit-of-requires c κs = search needs
 
@@ -68,20 +75,20 @@ pay-requires : tie.Need-pay-requires
 pay-requires c κs = (record { open-bounds = record { count-most = c .before .pre .0 .open-bounds .count-most; items-within = c .before .pre .0 .open-bounds .items-within }; held-most = omega arith; credit-most = c .before .pre .0 .credit-most }, (c .before .pre .1 .0, rw (credited c) (c .before .pre .1 .1 .1)))
 
 post-item-requires : tie.Need-post-item-requires
-post-item-requires c κs = (c .before .before .pre .1 .0, omega (arith, paid-most c))
+post-item-requires c κs = (c .before .before .pre .1 .0, (omega (arith, paid-most c), paid-stands c))
 
 charge-of-requires : tie.Need-charge-of-requires
 charge-of-requires c κs = search needs
 
 post-item-requires-2 : tie.Need-post-item-requires-2
-post-item-requires-2 c κs = (c .before .before .before .before .pre .1 .0, held-most (c .before))
+post-item-requires-2 c κs = (c .before .before .before .before .pre .1 .0, (held-most (c .before), held-stands (c .before)))
 
 returns : tie.Need-returns
 unfolding with-held with-credit
 returns c =
     let start = c .before .before .before .before .before in
     let steps = closed-steps (start .args .day) (start .args .net) (standing (start .args .self)) in
-    (rw (charged (c .before)) at (c .post-item2 .ensures (with-held start) (held-is (c .before .before)) (held-ready start))) ∙ ap stored (sym steps)
+    (rw (charged (c .before)) at (c .post-item2 .ensures (held-stands (c .before .before)))) ∙ ap stored (sym steps)
 
 pub close-spec : {M : Type 1} → statement M
 close-spec =
