@@ -100,8 +100,8 @@ pub amounts-entered : (kind : Kind) (day amount : ℕ) → amounts (enteredAs ki
 amounts-entered kind day amount = by-amount (λ n. amounts (enteredAs kind day n) ≡ n) amount refl (λ h. rw (lt-ltb 0 amount h) (add-zero amount))
 
 -- Interest entries need no mark.
-pub marks-interest : (paid sum day amount : ℕ) → Marks paid sum (enteredAs Interest day amount)
-marks-interest paid sum day amount = by-amount (λ n. Marks paid sum (enteredAs Interest day n)) amount tt (λ h. rw (lt-ltb 0 amount h) ((λ e. absurd (false≢true e)), tt))
+pub marks-interest : (paid earlier day amount : ℕ) → Marks paid earlier (enteredAs Interest day amount)
+marks-interest paid earlier day amount = by-amount (λ n. Marks paid earlier (enteredAs Interest day n)) amount tt (λ h. rw (lt-ltb 0 amount h) ((λ e. absurd (false≢true e)), tt))
 
 -- The settling of a day keeps the book.
 pub kept-settled : (day more priced : ℕ) (behind : List Entry) (m after : Money) → after .entries ≡ m .entries ++ behind → paidIn after ≡ paidIn m + more

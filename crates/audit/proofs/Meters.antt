@@ -8,6 +8,7 @@ use native.Mathlib.Omega.{arith}
 use lib.Dec.{eqb}
 use Rattle.lists.specs.Every.{Every}
 use Rattle.lists.proofs.Every.{every-map}
+use Rattle.meter.specs.declared.Estimates.{Estimates}
 use Rattle.ledger.specs.declared.Ledger.{Ledger}
 use Rattle.ledger.specs.Posting.{Standing, standing}
 use Rattle.account.specs.declared.Status.{Status}
@@ -17,7 +18,8 @@ use Rattle.account.specs.Closing.{stopOf, resumedStart}
 use Rattle.account.specs.Calls
 use Rattle.account.specs.Calls.{standingEstimates}
 use Rattle.account.specs.Refusals.{isNew, isSupplied, isStopped}
-use Rattle.account.proofs.Facts.{ItemFacts, EstimateFacts, LedgerFacts, Facts, StatusFacts, Made, new-facts}
+use Rattle.account.proofs.Made.{Made}
+use Rattle.account.proofs.Facts.{ItemFacts, EstimateFacts, LedgerFacts, Facts, StatusFacts, new-facts}
 use Rattle.account.proofs.Passed.{DialPassed, ExchangePassed}
 use Rattle.account.proofs.Sound.{item-later, load}
 use Rattle.audit.specs.Book
@@ -81,23 +83,21 @@ module _ (a : Account) (b : Book) (w : Matched a b) (day reading digits start bo
 pub opening-matched : (a : Account) (b : Book) → Matched a b → (day reading digits : ℕ) → DialPassed (isNew (a .status)) a day reading digits
     → Matched (Calls.begun a day reading digits day .account) (acceptMeter b day (begun (b .metering) reading digits day))
 opening-matched a b w day reading digits p =
-    begun-matched a b w day reading digits day day (isNew (a .status)) p (new-open a b (p .status-allows) (w .status-match)) refl (omega arith) (omega (arith, made .pool-none)) (omega (arith, made .previous-none)) (omega (arith, made .misses-none)) none-estimated none-open
+    begun-matched a b w day reading digits day day (isNew (a .status)) p (new-open a b (p .status-allows) (w .status-match)) refl (omega arith) (omega (arith, made .pool-none)) (omega (arith, made .previous-none)) (omega (arith, no-misses)) none-estimated none-open
   where
     made : Made a
     made = new-facts (a .status) a (p .status-allows) (w .facts)
 
+    no-misses : a .estimates .count ≡ 0
+    no-misses = ap (λ (e : Estimates). e .count) (made .estimates-none)
+
     none-estimated : Every EstimateFacts (standingEstimates a)
-    none-estimated = rw (made .misses-none) tt
+    none-estimated = rw no-misses tt
 
     none-open : LedgerFacts (a .latest) (a .ledger)
     none-open =
-        record {
-          count-most = omega (arith, made .items-none);
-          items = rw (made .items-none) tt;
-          held-most = omega (arith, made .held-none);
-          credit-most = omega (arith, made .credit-none);
-          credit-or-none = inl (made .credit-none);
-        }
+        subst (LedgerFacts (a .latest)) (sym (made .ledger-none))
+        (record { count-most = omega arith; items = tt; held-most = omega arith; credit-most = omega arith; credit-or-none = inl refl })
 
 pub reconnection-matched : (a : Account) (b : Book) → Matched a b → (day reading digits : ℕ) → DialPassed (isStopped (a .status)) a day reading digits
     → Matched (Calls.begun a day reading digits (resumedStart (stopOf (a .status)) day) .account) (acceptMeter b day (begun (b .metering) reading digits (cond (closedOn (b .periods) day) (day + 1) day)))

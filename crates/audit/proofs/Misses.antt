@@ -14,6 +14,7 @@ use Rattle.tariff.proofs.Bounds.{price-most}
 use Rattle.meter.specs.Sharing.{blank}
 use Rattle.ledger.specs.Posting.{Standing, standing, stored, closed}
 use Rattle.account.specs.declared.Account.{Account}
+use Rattle.account.specs.declared.Call.{Call}
 use Rattle.account.specs.Closing.{startOf, daysOf, storedEstimates}
 use Rattle.account.specs.Calls.{standingEstimates, estimateOf, missed}
 use Rattle.account.proofs.Facts.{EstimateFacts, MeterFacts}
@@ -22,27 +23,27 @@ use Rattle.account.proofs.Sound.{Bounded, held-most, closed-bounded, stored-fac
 use Rattle.account.proofs.Nets.{billable}
 use Rattle.ledger.proofs.Bounds.{standing-stored}
 use Rattle.audit.specs.Book
-use Rattle.audit.specs.Book.{Book, Closing, Money, Period, isReading, isAbsence, asEstimate, estimates, prices, priceAt, newPeriod, netAdded, settled, finished, acceptMiss}
+use Rattle.audit.specs.Book.{Book, Money, Period, isReading, isAbsence, asEstimate, estimates, prices, priceAt, newPeriod, netAdded, settled, finished, acceptMiss}
 use Rattle.audit.proofs.Balance.{Kept, onLedger, standing-is, closed-is, closed-kept, finished-open}
 use Rattle.audit.proofs.Periods.{difference, sub-added}
 use Rattle.audit.proofs.Matching.{Matched, Supply, supply, estimates-stand}
 use Rattle.audit.proofs.Readings.{bounded}
 
--- A closing that is no reading, of a volume within the limit, 0 for known absence.
+-- A call that is no reading, of a volume within the limit, 0 for known absence.
 module _ (a : Account) (b : Book) (w : Matched a b) (day : ℕ) (fuel : Fuel) (p : MissPassed a day fuel)
-    (closing : Closing) (no-reading : isReading closing ≡ false) (volume : ℕ) (within : volume ≤ 99999) (absent-zero : isAbsence closing ≡ true → volume ≡ 0) where
+    (call : Call) (no-reading : isReading call ≡ false) (volume : ℕ) (within : volume ≤ 99999) (absent-zero : isAbsence call ≡ true → volume ≡ 0) where
   supplied : Supply a b
   supplied = supply a b w (p .supplied)
 
   this-period : Period
-  this-period = newPeriod (b .metering) closing day fuel volume
+  this-period = newPeriod (b .metering) call day fuel volume
 
   net : ℤ
   unfolding this-period
   net = netAdded (b .periods) (this-period ∷ b .periods)
 
   charged : ℕ
-  charged = estimateOf a day fuel (isAbsence closing) volume .charged
+  charged = estimateOf a day fuel (isAbsence call) volume .charged
 
   charged-is : charged ≡ priceAt this-period
   unfolding charged this-period
@@ -52,11 +53,11 @@ module _ (a : Account) (b : Book) (w : Matched a b) (day : ℕ) (fuel : Fuel) (p
   unfolding net
   net-is = rw charged-is (sym (sub-added (priceAt this-period) (prices (b .periods))))
 
-  estimate-is : estimateOf a day fuel (isAbsence closing) volume ≡ asEstimate this-period
+  estimate-is : estimateOf a day fuel (isAbsence call) volume ≡ asEstimate this-period
   unfolding this-period
   estimate-is = rw (supplied .start-is)
 
-  estimates-are : standingEstimates a ++ (estimateOf a day fuel (isAbsence closing) volume ∷ []) ≡ map asEstimate (reverse (estimates (this-period ∷ b .periods)))
+  estimates-are : standingEstimates a ++ (estimateOf a day fuel (isAbsence call) volume ∷ []) ≡ map asEstimate (reverse (estimates (this-period ∷ b .periods)))
   unfolding this-period
   estimates-are =
       rw (no-reading, estimates-stand (w .metered), estimate-is, reverse-cons this-period (estimates (b .periods)))
@@ -97,9 +98,9 @@ module _ (a : Account) (b : Book) (w : Matched a b) (day : ℕ) (fuel : Fuel) (p
   finished-is = finished-open (Book.closed (b .money) day net) day (supplied .not-cancelled)
 
   after : Account
-  after = missed a day fuel (isAbsence closing) volume .account
+  after = missed a day fuel (isAbsence call) volume .account
 
-  this-facts : EstimateFacts (estimateOf a day fuel (isAbsence closing) volume)
+  this-facts : EstimateFacts (estimateOf a day fuel (isAbsence call) volume)
   unfolding charged
   this-facts = record { days-least = p .some-day; days-most = days-most; fuel-allowed = p .fuel-allowed; volume-most = within; charged-most = charged-within }
 
@@ -112,15 +113,15 @@ module _ (a : Account) (b : Book) (w : Matched a b) (day : ℕ) (fuel : Fuel) (p
         dial-within = supplied .facts .meter .dial-within;
         pool-most = supplied .facts .meter .pool-most;
         previous-most = within;
-        misses-most = rw (length-append (standingEstimates a) (estimateOf a day fuel (isAbsence closing) volume ∷ [])) (omega (arith, length-take (a .estimates .count) (a .estimates .periods), p .misses-most));
+        misses-most = rw (length-append (standingEstimates a) (estimateOf a day fuel (isAbsence call) volume ∷ [])) (omega (arith, length-take (a .estimates .count) (a .estimates .periods), p .misses-most));
         estimates =
-            rw (take-pad blank 6 (standingEstimates a ++ (estimateOf a day fuel (isAbsence closing) volume ∷ [])))
-            (every-append EstimateFacts (standingEstimates a) (estimateOf a day fuel (isAbsence closing) volume ∷ []) (supplied .facts .meter .estimates) (this-facts, tt));
+            rw (take-pad blank 6 (standingEstimates a ++ (estimateOf a day fuel (isAbsence call) volume ∷ [])))
+            (every-append EstimateFacts (standingEstimates a) (estimateOf a day fuel (isAbsence call) volume ∷ []) (supplied .facts .meter .estimates) (this-facts, tt));
       }
 
-  pub miss-matched : length (closed day (pos (estimateOf a day fuel (isAbsence closing) volume .charged)) (standing (a .ledger)) .open-items) ≤ 72
-      → closed day (pos (estimateOf a day fuel (isAbsence closing) volume .charged)) (standing (a .ledger)) .credit ≤ 999999999
-      → Matched (missed a day fuel (isAbsence closing) volume .account) (acceptMiss b day (newPeriod (b .metering) closing day fuel volume ∷ b .periods))
+  pub miss-matched : length (closed day (pos (estimateOf a day fuel (isAbsence call) volume .charged)) (standing (a .ledger)) .open-items) ≤ 72
+      → closed day (pos (estimateOf a day fuel (isAbsence call) volume .charged)) (standing (a .ledger)) .credit ≤ 999999999
+      → Matched (missed a day fuel (isAbsence call) volume .account) (acceptMiss b day (newPeriod (b .metering) call day fuel volume ∷ b .periods))
   unfolding afterLedger charged after this-period net
   miss-matched items-most credit-most =
       rw finished-is

@@ -54,9 +54,9 @@ last-is (v ∷ w ∷ volumes) =
 -- Periods split at the latest real closing.
 pub split : (periods : List Period) → periods ≡ estimates periods ++ beforeEstimates periods
 split [] = refl
-split (p ∷ periods) = go (isReading (p .closing)) refl (split periods)
+split (p ∷ periods) = go (isReading (p .call)) refl (split periods)
   where
-    go : (b : Bool) → isReading (p .closing) ≡ b → periods ≡ estimates periods ++ beforeEstimates periods → p ∷ periods ≡ estimates (p ∷ periods) ++ beforeEstimates (p ∷ periods)
+    go : (b : Bool) → isReading (p .call) ≡ b → periods ≡ estimates periods ++ beforeEstimates periods → p ∷ periods ≡ estimates (p ∷ periods) ++ beforeEstimates (p ∷ periods)
     go true e ih = rw e
     go false e ih = rw e (ap (λ ps. p ∷ ps) ih)
 
@@ -65,21 +65,21 @@ prices-split periods = ap prices (split periods) ∙ total-append priceAt (estim
 
 -- A period of known absence is billed 0.
 abbrev pub AbsentZero : List Period → Type 0
-AbsentZero = Every (λ p. isAbsence (p .closing) ≡ true → p .volume ≡ 0)
+AbsentZero = Every (λ p. isAbsence (p .call) ≡ true → p .volume ≡ 0)
 
 pub absent-before : (periods : List Period) → AbsentZero periods → AbsentZero (beforeEstimates periods)
 absent-before [] w = tt
-absent-before (p ∷ periods) w = go (isReading (p .closing)) refl (absent-before periods (w .1))
+absent-before (p ∷ periods) w = go (isReading (p .call)) refl (absent-before periods (w .1))
   where
-    go : (b : Bool) → isReading (p .closing) ≡ b → AbsentZero (beforeEstimates periods) → AbsentZero (beforeEstimates (p ∷ periods))
+    go : (b : Bool) → isReading (p .call) ≡ b → AbsentZero (beforeEstimates periods) → AbsentZero (beforeEstimates (p ∷ periods))
     go true e ih = rw e w
     go false e ih = rw e ih
 
 pub absent-estimates : (periods : List Period) → AbsentZero periods → AbsentZero (estimates periods)
 absent-estimates [] w = tt
-absent-estimates (p ∷ periods) w = go (isReading (p .closing)) refl (absent-estimates periods (w .1))
+absent-estimates (p ∷ periods) w = go (isReading (p .call)) refl (absent-estimates periods (w .1))
   where
-    go : (b : Bool) → isReading (p .closing) ≡ b → AbsentZero (estimates periods) → AbsentZero (estimates (p ∷ periods))
+    go : (b : Bool) → isReading (p .call) ≡ b → AbsentZero (estimates periods) → AbsentZero (estimates (p ∷ periods))
     go true e ih = rw e tt
     go false e ih = rw e (w .0, ih)
 
@@ -92,7 +92,7 @@ revised-same (p ∷ periods) rest = ap (λ ps. p ∷ ps) (revised-same periods r
 abbrev Shared : List Period → List ℕ → Type 0
 Shared [] volumes = Unit {0}
 Shared (p ∷ periods) [] = ⊥
-Shared (p ∷ periods) (v ∷ volumes) = (isAbsence (p .closing) ≡ true → v ≡ 0) × Shared periods volumes
+Shared (p ∷ periods) (v ∷ volumes) = (isAbsence (p .call) ≡ true → v ≡ 0) × Shared periods volumes
 
 shared-from : (periods : List Period) (marks : List Bool) (volumes : List ℕ) → ZeroAt (map sharing (map asEstimate periods) ++ marks) volumes → Shared periods volumes
 shared-from [] marks volumes w = tt
@@ -101,24 +101,24 @@ shared-from (p ∷ periods) marks (v ∷ volumes) w = ((λ absent. w .0 (ap not 
 
 -- the price of the periods of known absence
 absentPrices : List Period → ℕ
-absentPrices = total (λ p. cond (isAbsence (p .closing)) (priceAt p) 0)
+absentPrices = total (λ p. cond (isAbsence (p .call)) (priceAt p) 0)
 
 prices-revised : (periods : List Period) (volumes : List ℕ) → AbsentZero periods → Shared periods volumes → prices (revised periods volumes) ≡ revisedPrices (map asEstimate periods) volumes + absentPrices periods
 unfolding absentPrices
 prices-revised [] volumes zeros w = refl
 prices-revised (p ∷ periods) [] zeros w = absurd w
-prices-revised (p ∷ periods) (v ∷ volumes) zeros w = go (isAbsence (p .closing)) refl (prices-revised periods volumes (zeros .1) (w .1))
+prices-revised (p ∷ periods) (v ∷ volumes) zeros w = go (isAbsence (p .call)) refl (prices-revised periods volumes (zeros .1) (w .1))
   where
-    go : (b : Bool) → isAbsence (p .closing) ≡ b → prices (revised periods volumes) ≡ revisedPrices (map asEstimate periods) volumes + absentPrices periods → prices (revised (p ∷ periods) (v ∷ volumes)) ≡ revisedPrices (map asEstimate (p ∷ periods)) (v ∷ volumes) + absentPrices (p ∷ periods)
+    go : (b : Bool) → isAbsence (p .call) ≡ b → prices (revised periods volumes) ≡ revisedPrices (map asEstimate periods) volumes + absentPrices periods → prices (revised (p ∷ periods) (v ∷ volumes)) ≡ revisedPrices (map asEstimate (p ∷ periods)) (v ∷ volumes) + absentPrices (p ∷ periods)
     go true e ih = rw (e, w .0 e, zeros .0 e) (omega (arith, ih))
     go false e ih = rw e (omega (arith, ih))
 
 prices-charged : (periods : List Period) → prices periods ≡ revisedCharges (map asEstimate periods) + absentPrices periods
 unfolding absentPrices
 prices-charged [] = refl
-prices-charged (p ∷ periods) = go (isAbsence (p .closing)) refl (prices-charged periods)
+prices-charged (p ∷ periods) = go (isAbsence (p .call)) refl (prices-charged periods)
   where
-    go : (b : Bool) → isAbsence (p .closing) ≡ b → prices periods ≡ revisedCharges (map asEstimate periods) + absentPrices periods → prices (p ∷ periods) ≡ revisedCharges (map asEstimate (p ∷ periods)) + absentPrices (p ∷ periods)
+    go : (b : Bool) → isAbsence (p .call) ≡ b → prices periods ≡ revisedCharges (map asEstimate periods) + absentPrices periods → prices (p ∷ periods) ≡ revisedCharges (map asEstimate (p ∷ periods)) + absentPrices (p ∷ periods)
     go true e ih = rw e (omega (arith, ih))
     go false e ih = rw e (omega (arith, ih))
 
@@ -150,7 +150,7 @@ module _ (periods : List Period) (pool : ℕ) where
 
   module _ (zeros : AbsentZero periods) where
     zeros-oldest : AbsentZero oldest
-    zeros-oldest = every-reverse (λ p. isAbsence (p .closing) ≡ true → p .volume ≡ 0) (estimates periods) (absent-estimates periods zeros)
+    zeros-oldest = every-reverse (λ p. isAbsence (p .call) ≡ true → p .volume ≡ 0) (estimates periods) (absent-estimates periods zeros)
 
     shared-given : leb (estimated (map asEstimate oldest)) pool ≡ false → Shared oldest given
     shared-given e = rw (shares-given e) (shared-from oldest (true ∷ []) (sharedPool (map asEstimate oldest) pool) (absent-zero (map asEstimate oldest) pool))
@@ -179,8 +179,8 @@ module _ (periods : List Period) (pool : ℕ) where
 
     pub zeros-after : AbsentZero after
     zeros-after =
-        every-append (λ p. isAbsence (p .closing) ≡ true → p .volume ≡ 0) (reverse (revised oldest given)) (beforeEstimates periods)
-        (every-reverse (λ p. isAbsence (p .closing) ≡ true → p .volume ≡ 0) (revised oldest given) (go (leb (estimated (map asEstimate oldest)) pool) refl))
+        every-append (λ p. isAbsence (p .call) ≡ true → p .volume ≡ 0) (reverse (revised oldest given)) (beforeEstimates periods)
+        (every-reverse (λ p. isAbsence (p .call) ≡ true → p .volume ≡ 0) (revised oldest given) (go (leb (estimated (map asEstimate oldest)) pool) refl))
         (absent-before periods zeros)
       where
         go : (b : Bool) → leb (estimated (map asEstimate oldest)) pool ≡ b → AbsentZero (revised oldest given)

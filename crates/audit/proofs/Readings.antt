@@ -1,6 +1,6 @@
 -- 02, 06 and 08: a real reading that closes a period keeps account and book together. Assumes nothing.
 use mathlib.Core.Path.{_≡_, refl, ap, sym, subst, _∙_}
-use mathlib.Core.Bool.{false≢true}
+use mathlib.Core.Bool.{true, false, false≢true}
 use mathlib.Core.List.{List}
 use Prim.Native.Nat.{ℕ, _+_, _≤_}
 use native.Mathlib.Nat.{le-refl}
@@ -19,6 +19,7 @@ use Rattle.ledger.proofs.Settling.{left-or-none}
 use Rattle.account.specs.declared.Status.{Status}
 use Rattle.account.specs.declared.Status.the-variants.{Supplied, Stopped, Cancelled}
 use Rattle.account.specs.declared.Account.{Account}
+use Rattle.account.specs.declared.Call.{Call}
 use Rattle.account.specs.Closing.{startOf, daysOf, dayAfter, ofThisPeriod}
 use Rattle.account.specs.Calls
 use Rattle.account.specs.Calls.{standingEstimates, poolTo, madeFinal, closingPrice, closingNet, closedLedger, afterReading}
@@ -28,7 +29,7 @@ use Rattle.account.proofs.Sound.{item-later, Bounded, held-most, closed-bounded
 use Rattle.account.proofs.Nets.{billable, this-within, charge-most}
 use Rattle.ledger.proofs.Bounds.{standing-stored}
 use Rattle.audit.specs.Book
-use Rattle.audit.specs.Book.{Book, Money, Period, byReading, estimates, prices, priceAt, lastOf, newPeriod, poolWith, withReading, netAdded, paidIn, settled, finished, interestEntered, cancelled, read, acceptReading}
+use Rattle.audit.specs.Book.{Book, Money, Period, isReading, isAbsence, estimates, prices, priceAt, lastOf, newPeriod, poolWith, withReading, netAdded, paidIn, settled, finished, interestEntered, cancelled, read, acceptReading}
 use Rattle.audit.proofs.Entries.{itemsOf}
 use Rattle.audit.proofs.Balance.{Balanced, Kept, onLedger, standing-is, closed-is, closed-kept, entered-is, entered-kept, finished-open}
 use Rattle.audit.proofs.Periods.{given, difference, last-is, net-added, zeros-after}
@@ -46,7 +47,9 @@ bounded a b w day h facts =
       load-most = w .load-most;
     }
 
-module _ (a : Account) (b : Book) (w : Matched a b) (day reading : ℕ) (fuel : Fuel) (p : ReadingPassed a day reading fuel) where
+-- A call that is a real reading.
+module _ (a : Account) (b : Book) (w : Matched a b) (day reading : ℕ) (fuel : Fuel) (p : ReadingPassed a day reading fuel)
+    (call : Call) (is-reading : isReading call ≡ true) (no-absence : isAbsence call ≡ false) where
   supplied : Supply a b
   supplied = supply a b w (p .supplied)
 
@@ -54,7 +57,7 @@ module _ (a : Account) (b : Book) (w : Matched a b) (day reading : ℕ) (fuel : 
   pool = poolWith (b .metering) reading
 
   periods : List Period
-  periods = withReading (b .metering) (b .periods) day reading fuel
+  periods = withReading (b .metering) (b .periods) call day reading fuel
 
   net : ℤ
   unfolding periods
@@ -70,7 +73,7 @@ module _ (a : Account) (b : Book) (w : Matched a b) (day reading : ℕ) (fuel : 
 
   this-period : Period
   unfolding pool
-  this-period = newPeriod (b .metering) byReading day fuel (lastOf (given (b .periods) pool))
+  this-period = newPeriod (b .metering) call day fuel (lastOf (given (b .periods) pool))
 
   price-is : closingPrice a day reading fuel ≡ priceAt this-period
   unfolding this-period
@@ -136,8 +139,8 @@ module _ (a : Account) (b : Book) (w : Matched a b) (day reading : ℕ) (fuel : 
         digits-is = w .metered .digits-is;
         pool-is = refl;
         previous-is = rw final-is (sym (last-is (given (b .periods) pool)));
-        estimates-are = refl;
-        zeros = ((λ e. absurd (false≢true e)), zeros-after (b .periods) pool (w .metered .zeros));
+        estimates-are = rw is-reading refl;
+        zeros = ((λ e. absurd (false≢true (sym no-absence ∙ e))), zeros-after (b .periods) pool (w .metered .zeros));
       }
 
   -- 02 and 06.
@@ -158,7 +161,7 @@ module _ (a : Account) (b : Book) (w : Matched a b) (day reading : ℕ) (fuel : 
 
     read-matched : (status : Status) → StatusMatch status (record { metering = read (b .metering) day reading; periods = periods; money = money })
         → StatusFacts status (afterReading a day reading fuel status (stored (closedLedger a day reading fuel)))
-        → Matched (Calls.read a day reading fuel status .account) (acceptReading b day reading fuel (λ m. m))
+        → Matched (Calls.read a day reading fuel status .account) (acceptReading b call day reading fuel (λ m. m))
     unfolding periods net
     read-matched status match facts =
         rw finished-is
@@ -170,11 +173,11 @@ module _ (a : Account) (b : Book) (w : Matched a b) (day reading : ℕ) (fuel : 
           load-most = rw ledger-is at (after-bounded .load-most);
         })
 
-    pub reading-matched : Matched (Calls.read a day reading fuel (Supplied (dayAfter day)) .account) (acceptReading b day reading fuel (λ m. m))
+    pub reading-matched : Matched (Calls.read a day reading fuel (Supplied (dayAfter day)) .account) (acceptReading b call day reading fuel (λ m. m))
     unfolding money
     reading-matched = read-matched (Supplied (dayAfter day)) (refl, supplied .not-cancelled) (le-refl (day + 1), facts-after (Supplied (dayAfter day)))
 
-    pub disconnection-matched : Matched (Calls.read a day reading fuel (Stopped day) .account) (acceptReading b day reading fuel (λ m. m))
+    pub disconnection-matched : Matched (Calls.read a day reading fuel (Stopped day) .account) (acceptReading b call day reading fuel (λ m. m))
     unfolding money periods
     disconnection-matched = read-matched (Stopped day) ((λ d. refl), supplied .not-cancelled) (le-refl day, facts-after (Stopped day))
 
@@ -195,7 +198,7 @@ module _ (a : Account) (b : Book) (w : Matched a b) (day reading : ℕ) (fuel : 
     ledger-after =
         stored-facts day (heldPosted day (closedLedger a day reading fuel)) (posted-sound day (closedLedger a day reading fuel) (p .day-most) (after-bounded .sound .items) (held-most day (closedLedger a day reading fuel) after-bounded)) items-most credit-most (omega (arith, none-held)) (standing-stored (heldPosted day (closedLedger a day reading fuel)) items-most)
 
-    pub cancellation-matched : Matched (Calls.cancelled a day reading fuel .account) (acceptReading b day reading fuel cancelled)
+    pub cancellation-matched : Matched (Calls.cancelled a day reading fuel .account) (acceptReading b call day reading fuel cancelled)
     unfolding periods net money
     cancellation-matched =
         record {

@@ -17,14 +17,9 @@ use Rattle.ledger.specs.Interest.{interestOn}
 use Rattle.account.specs.declared.Call.{Call}
 use Rattle.account.specs.declared.Call.the-variants.{Opening, Reading, Missed, Absent, Exchange, Disconnection, Reconnection, Cancellation, Payment, StoppedCancellation}
 
--- How a period was closed: by a real reading (02, 06, 08), by a miss (03), or by a miss with absence throughout known (04).
-pub data Closing : Type 0 where
-  byReading : Closing
-  byMiss : Closing
-  byAbsence : Closing
-
 pub record Period : Type 0 where
-  pub closing : Closing
+  -- the call that closed it
+  pub call : Call
   pub closing-day : ℕ
   pub days : ℕ
   pub fuel : Fuel
@@ -74,24 +69,40 @@ empty =
 
 -- Periods.
 
-abbrev pub isReading : Closing → Bool
-isReading byReading = true
-isReading byMiss = false
-isReading byAbsence = false
+-- 02, 06 and 08: the real readings that close a period.
+abbrev pub isReading : Call → Bool
+isReading (Opening day reading digits) = false
+isReading (Reading day reading fuel) = true
+isReading (Missed day fuel) = false
+isReading (Absent day fuel) = false
+isReading (Exchange day old new digits) = false
+isReading (Disconnection day reading fuel) = true
+isReading (Reconnection day reading digits) = false
+isReading (Cancellation day reading fuel) = true
+isReading (Payment day yen) = false
+isReading (StoppedCancellation day) = false
 
-abbrev pub isAbsence : Closing → Bool
-isAbsence byReading = false
-isAbsence byMiss = false
-isAbsence byAbsence = true
+-- 04: missed with absence throughout known.
+abbrev pub isAbsence : Call → Bool
+isAbsence (Opening day reading digits) = false
+isAbsence (Reading day reading fuel) = false
+isAbsence (Missed day fuel) = false
+isAbsence (Absent day fuel) = true
+isAbsence (Exchange day old new digits) = false
+isAbsence (Disconnection day reading fuel) = false
+isAbsence (Reconnection day reading digits) = false
+isAbsence (Cancellation day reading fuel) = false
+isAbsence (Payment day yen) = false
+isAbsence (StoppedCancellation day) = false
 
 -- The estimates that stand, the latest first: the periods since the latest real closing. And the periods before them.
 abbrev pub estimates : List Period → List Period
 estimates [] = []
-estimates (period ∷ periods) = cond (isReading (period .closing)) [] (period ∷ estimates periods)
+estimates (period ∷ periods) = cond (isReading (period .call)) [] (period ∷ estimates periods)
 
 abbrev pub beforeEstimates : List Period → List Period
 beforeEstimates [] = []
-beforeEstimates (period ∷ periods) = cond (isReading (period .closing)) (period ∷ periods) (beforeEstimates periods)
+beforeEstimates (period ∷ periods) = cond (isReading (period .call)) (period ∷ periods) (beforeEstimates periods)
 
 -- The price of a period at its standing volume, with its own days and fuel prices.
 abbrev pub priceAt : Period → ℕ
@@ -113,7 +124,7 @@ closedOn (period ∷ periods) day = eqb (period .closing-day) day
 abbrev pub asEstimate : Period → Estimate
 asEstimate period =
     record {
-      absent = isAbsence (period .closing);
+      absent = isAbsence (period .call);
       days = period .days;
       fuel = period .fuel;
       volume = period .volume;
@@ -122,7 +133,7 @@ asEstimate period =
 
 abbrev pub withVolume : Period → ℕ → Period
 withVolume period volume =
-    record { closing = period .closing; closing-day = period .closing-day; days = period .days; fuel = period .fuel; volume = volume }
+    record { call = period .call; closing-day = period .closing-day; days = period .days; fuel = period .fuel; volume = volume }
 
 -- Each period is given its volume, both the oldest first.
 abbrev pub revised : List Period → List ℕ → List Period
@@ -147,16 +158,17 @@ abbrev pub enteredAs : Kind → ℕ → ℕ → List Entry
 enteredAs kind day amount = cond (ltb 0 amount) (entry kind day amount ∷ []) []
 
 -- Settling by definition: a price item is settled by the first call after which payments plus credited nets reach the sum of all items up to it.
+-- `earlier` is what the items before it come to.
 abbrev pub marked : ℕ → ℕ → List Entry → List Entry
-marked paid sum [] = []
-marked paid sum (e ∷ es) =
-    record { item = e .item; settled = e .settled || leb (sum + e .item .amount) paid } ∷ marked paid (sum + e .item .amount) es
+marked paid earlier [] = []
+marked paid earlier (e ∷ es) =
+    record { item = e .item; settled = e .settled || leb (earlier + e .item .amount) paid } ∷ marked paid (earlier + e .item .amount) es
 
 -- The interest of the items that are settled now and were not before.
 abbrev pub arising : ℕ → ℕ → ℕ → List Entry → ℕ
-arising day paid sum [] = 0
-arising day paid sum (e ∷ es) =
-    cond (not (e .settled) && leb (sum + e .item .amount) paid) (interestOn (e .item) day) 0 + arising day paid (sum + e .item .amount) es
+arising day paid earlier [] = 0
+arising day paid earlier (e ∷ es) =
+    cond (not (e .settled) && leb (earlier + e .item .amount) paid) (interestOn (e .item) day) 0 + arising day paid (earlier + e .item .amount) es
 
 -- Meters.
 
@@ -181,25 +193,25 @@ abbrev pub missed : Metering → ℕ → Metering
 missed m day = record { dial = m .dial; digits = m .digits; start = day + 1; pool = m .pool; advanced = m .advanced }
 
 -- A closing adds a period: its call, closing day, days, fuel prices and volume.
-abbrev pub newPeriod : Metering → Closing → ℕ → Fuel → ℕ → Period
-newPeriod m closing day fuel volume =
-    record { closing = closing; closing-day = day; days = day + 1 - m .start; fuel = fuel; volume = volume }
+abbrev pub newPeriod : Metering → Call → ℕ → Fuel → ℕ → Period
+newPeriod m call day fuel volume =
+    record { call = call; closing-day = day; days = day + 1 - m .start; fuel = fuel; volume = volume }
 
 -- A real closing also revises the estimates, by the sharing rule on the book's own pool and periods.
 abbrev pub volumesGiven : List Period → ℕ → List ℕ
 volumesGiven periods pool = finalVolumes (map asEstimate (reverse (estimates periods))) pool
 
-abbrev pub withReading : Metering → List Period → ℕ → ℕ → Fuel → List Period
-withReading m periods day reading fuel =
-    newPeriod m byReading day fuel (lastOf (volumesGiven periods (poolWith m reading))) ∷
+abbrev pub withReading : Metering → List Period → Call → ℕ → ℕ → Fuel → List Period
+withReading m periods call day reading fuel =
+    newPeriod m call day fuel (lastOf (volumesGiven periods (poolWith m reading))) ∷
     reverse (revised (reverse (estimates periods)) (volumesGiven periods (poolWith m reading))) ++ beforeEstimates periods
 
 -- 03 bills the volume of the period just before; 04 bills 0 (14(6)).
 abbrev pub withMiss : Metering → List Period → ℕ → Fuel → List Period
-withMiss m periods day fuel = newPeriod m byMiss day fuel (volumeBefore periods) ∷ periods
+withMiss m periods day fuel = newPeriod m (Missed day fuel) day fuel (volumeBefore periods) ∷ periods
 
 abbrev pub withAbsence : Metering → List Period → ℕ → Fuel → List Period
-withAbsence m periods day fuel = newPeriod m byAbsence day fuel 0 ∷ periods
+withAbsence m periods day fuel = newPeriod m (Absent day fuel) day fuel 0 ∷ periods
 
 -- Money.
 
@@ -283,9 +295,9 @@ finished m day = cond (m .is-cancelled) (interestEntered (settled m day) day) (s
 
 -- Calls.
 
-abbrev pub acceptReading : Book → ℕ → ℕ → Fuel → (Money → Money) → Book
-acceptReading b day reading fuel and-then =
-    let periods = withReading (b .metering) (b .periods) day reading fuel in
+abbrev pub acceptReading : Book → Call → ℕ → ℕ → Fuel → (Money → Money) → Book
+acceptReading b call day reading fuel and-then =
+    let periods = withReading (b .metering) (b .periods) call day reading fuel in
     record {
       metering = read (b .metering) day reading;
       periods = periods;
@@ -308,13 +320,13 @@ acceptMoney b day money = record { metering = b .metering; periods = b .periods;
 
 unfoldable pub accept : Book → Call → Book
 accept b (Opening day reading digits) = acceptMeter b day (begun (b .metering) reading digits day)
-accept b (Reading day reading fuel) = acceptReading b day reading fuel (λ money. money)
+accept b (Reading day reading fuel) = acceptReading b (Reading day reading fuel) day reading fuel (λ money. money)
 accept b (Missed day fuel) = acceptMiss b day (withMiss (b .metering) (b .periods) day fuel)
 accept b (Absent day fuel) = acceptMiss b day (withAbsence (b .metering) (b .periods) day fuel)
 accept b (Exchange day old new digits) = acceptMeter b day (exchanged (b .metering) old new digits)
-accept b (Disconnection day reading fuel) = acceptReading b day reading fuel (λ money. money)
+accept b (Disconnection day reading fuel) = acceptReading b (Disconnection day reading fuel) day reading fuel (λ money. money)
 accept b (Reconnection day reading digits) = acceptMeter b day (begun (b .metering) reading digits (cond (closedOn (b .periods) day) (day + 1) day))
-accept b (Cancellation day reading fuel) = acceptReading b day reading fuel cancelled
+accept b (Cancellation day reading fuel) = acceptReading b (Cancellation day reading fuel) day reading fuel cancelled
 accept b (Payment day yen) = acceptMoney b day (received (b .money) yen)
 accept b (StoppedCancellation day) = acceptMoney b day (cancelled (interestEntered (b .money) day))
 
