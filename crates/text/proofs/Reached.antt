@@ -1,6 +1,6 @@
 -- An account that calls lead to is whole, and goes on so: number 41 has nothing to find. Assumes nothing.
 use mathlib.Core.Path.{_≡_, refl, sym, ap, subst, _∙_}
-use mathlib.Core.Bool.{Bool, true, false, cond, false≢true}
+use mathlib.Core.Bool.{true, false≢true}
 use mathlib.Core.List.{List, [], _∷_, _++_}
 use Prim.Native.Nat.{ℕ}
 use Rattle.ledger.specs.Oldest.{Tidy}
@@ -9,7 +9,7 @@ use Rattle.account.specs.declared.Call.{Call}
 use Rattle.account.specs.Calls.{newAccount}
 use Rattle.account.specs.Outcomes.{outcome}
 use Rattle.account.specs.declared.light.Light.{Light}
-use Rattle.account.specs.LightCalls.{notLight, Lightly}
+use Rattle.account.specs.LightCalls.{Lightly}
 use Rattle.account.specs.Whole.{whole}
 use Rattle.account.proofs.LightCalls.{light-lightly}
 use Rattle.audit.specs.Claim.{Run, start, step, run}
@@ -17,7 +17,9 @@ use Rattle.audit.proofs.Theorem.{reconciled, tidy}
 use Rattle.wire.specs.declared.Parsed.{Parsed}
 use Rattle.wire.specs.declared.Parsed.the-variants.{Frame, NotAFrame}
 use Rattle.wire.specs.Frames.{parsed}
+use Rattle.text.specs.declared.State.{State}
 use Rattle.text.specs.Output.{parsedOutcome, lineOutcome, lightLine, accountAfter, callsOf}
+use Rattle.text.specs.Pieces.{linesIn, Behind}
 use Rattle.text.specs.Reached.{Reached}
 use Rattle.text.proofs.Sums.{account-run}
 
@@ -34,14 +36,16 @@ reached-new = record { calls = []; account-is = refl }
 pub reached-lines : (a : Account) (lines : List (List ℕ)) → a ≡ accountAfter newAccount lines → Reached a
 reached-lines a lines e = record { calls = callsOf lines; account-is = e ∙ account-run lines start }
 
--- Where a line is taken for a light call, it comes to what it comes to.
-pub line-lightly : (a : Account) (line : Parsed) (known : Bool) → (known ≡ true → Reached a) → (light : Light) → light ≡ cond known (lightLine a line) notLight → light .applies ≡ true → Lightly a (parsedOutcome a line) light
-line-lightly a line known reached light is applies = subst (Lightly a (parsedOutcome a line)) (sym is) (go known reached line (rw is at applies))
+pub behind-reached : {s : State} → Behind s → Reached (s .account)
+behind-reached {s} b = reached-lines (s .account) (linesIn [] (b .seen)) (b .follows .account-is)
+
+-- Where a line is a light call, it comes to what that changes.
+pub line-lightly : (a : Account) (line : Parsed) → Reached a → (light : Light) → light ≡ lightLine a line → light .applies ≡ true → Lightly a (parsedOutcome a line) light
+line-lightly a line r light is applies = subst (Lightly a (parsedOutcome a line)) (sym is) (go line (rw is at applies))
   where
-    go : (known : Bool) → (known ≡ true → Reached a) → (line : Parsed) → cond known (lightLine a line) notLight .applies ≡ true → Lightly a (parsedOutcome a line) (cond known (lightLine a line) notLight)
-    go true r (Frame call) e = light-lightly a (reached-whole a (r refl)) (reached-tidy a (r refl)) call e
-    go true r NotAFrame e = absurd (false≢true e)
-    go false r l e = absurd (false≢true e)
+    go : (line : Parsed) → lightLine a line .applies ≡ true → Lightly a (parsedOutcome a line) (lightLine a line)
+    go (Frame call) e = light-lightly a (reached-whole a r) (reached-tidy a r) call e
+    go NotAFrame e = absurd (false≢true e)
 
 run-behind : (r : Run) (calls : List Call) (call : Call) → run r (calls ++ (call ∷ [])) ≡ step (run r calls) call
 unfolding run

@@ -1,7 +1,7 @@
 -- What the programs write for an input.
 use mathlib.Core.Bool.{cond}
 use mathlib.Core.List.{List, [], _∷_}
-use Prim.Native.Nat.{ℕ, _-_, _^_}
+use Prim.Native.Nat.{ℕ, _+_, _-_, _^_}
 use lib.Dec.{leb}
 use lib.ListN.{length, take}
 use Rattle.lists.specs.Joined.{joined}
@@ -74,7 +74,10 @@ longestInput = 2 ^ 48
 abbrev pub sizeOf : List ℕ → List ℕ → ℕ
 sizeOf input text = cond (leb (length input) longestInput) (length text) (2 ^ 64 - 1)
 
--- Text that is written where there is room for it, and otherwise not.
+-- Text that is written from a place on where there is room for it, and otherwise not.
+abbrev pub fittedAt : List ℕ → ℕ → List ℕ → List ℕ
+fittedAt place at text = cond (leb (at + length text) (length place)) (written place at text) place
+
 abbrev pub fitted : List ℕ → List ℕ → List ℕ
 fitted place text = cond (leb (length text) (length place)) (written place 0 text) place
 

@@ -7,11 +7,13 @@ use lib.Dec.{eqb}
 use lib.ListN.{length, take}
 use Rattle.lists.specs.Sum.{total}
 use Rattle.lists.specs.Joined.{joined}
+use Rattle.account.specs.declared.Account.{Account}
 use Rattle.account.specs.Calls.{newAccount}
 use Rattle.audit.specs.Book.{Book, prices}
 use Rattle.audit.specs.Claim.{start, run, finalVolume, unpaidOn}
 use Rattle.wire.specs.Answers.{lineFeed, answerLine}
 use Rattle.text.specs.declared.State.{State}
+use Rattle.text.specs.Lines.{linesOf}
 use Rattle.text.specs.Output.{answersOf, accountAfter, callsOf}
 use Rattle.text.specs.Feeding.{lineOf, feeding}
 
@@ -43,6 +45,15 @@ pub record Stands (seen out : List ℕ) (s : State) : Type 0 where
 -- A state that stands behind what was taken, all that it makes written.
 abbrev pub Follows : List ℕ → State → Type 0
 Follows seen s = Stands seen (made seen) s
+
+-- A state that some input leads to, and an account that all lines of some input leave. What was read is known only to the run itself.
+pub record Behind (s : State) : Type 0 where
+  pub seen : List ℕ
+  pub follows : Follows seen s
+
+pub record LeftByLines (a : Account) : Type 0 where
+  pub input : List ℕ
+  pub account-is : a ≡ accountAfter newAccount (linesOf input)
 
 -- A piece, and the room lent for what it makes.
 pub record Piece : Type 0 where

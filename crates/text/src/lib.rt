@@ -5,17 +5,14 @@ ghost use Prim.Native.Nat.{_+_, _*_, min, _≤_};
 ghost use lib.ListN.{length, take};
 ghost use Rattle.wire.specs.Digits.{written};
 ghost use Rattle.wire.specs.Notices.{noticeLength};
-ghost use Rattle.text.specs.Output.{parsedOutcome, lightLine, accountAfter, noticesOf, openNotices, bill, notice, longestInput, sizeOf, fitted, worked};
+ghost use Rattle.text.specs.Output.{parsedOutcome, lightLine, accountAfter, noticesOf, openNotices, bill, notice, longestInput, sizeOf, fittedAt, fitted, worked};
 ghost use Rattle.account.specs.Calls.{newAccount};
-ghost use Rattle.account.specs.Outcomes.{outcome};
 ghost use Rattle.account.specs.Whole.{whole};
-ghost use Rattle.account.specs.LightCalls.{notLight};
 ghost use Rattle.text.specs.Reached.{Reached};
 ghost use Rattle.text.specs.Lines.{linesOf};
 ghost use Rattle.text.specs.Pieces.{Sums};
 ghost use Rattle.text.specs.Feeding.{fresh, feeding, finishing, fedOf};
 use account::Account;
-use account::Call;
 use account::Outcome;
 use account::light::Light;
 use ledger::Ledger;
@@ -56,36 +53,22 @@ impl State {
     }
 }
 
-// A call's outcome. Of an account known to be whole, number 41 is not asked.
-fn answer_call(account: Account, call: Call, known: bool) -> Outcome
-    requires { ⌜ (known ≡ true → whole account ≡ true) ⌝ }
-    ensures { λ r. ⌜ r ≡ outcome account call ⌝ }
-{
-    if known {
-        return account::whole::answer(account, call);
-    }
-    account.apply(call)
-}
-
 // What a line comes to: 40, or its call's outcome.
-fn answer_line(account: Account, line: Parsed, known: bool) -> Outcome
-    requires { ⌜ (known ≡ true → whole account ≡ true) ⌝ }
+fn answer_line(account: Account, line: Parsed) -> Outcome
+    requires { ⌜ whole account ≡ true ⌝ }
     ensures { λ r. ⌜ r ≡ parsedOutcome account line ⌝ }
 {
     match line {
-        Parsed::Frame(call) => answer_call(account, call, known),
+        Parsed::Frame(call) => account::whole::answer(account, call),
         Parsed::NotAFrame => account::whole::decline(account, 40),
     }
 }
 
-// What a line changes, where it is a light call. Of an account not known to come from a new one it is not asked.
-fn light_line(account: Account, line: Parsed, known: bool) -> Light
-    requires { ⌜ (known ≡ true → whole account ≡ true) ⌝ }
-    ensures { λ r. ⌜ r ≡ cond known (lightLine account line) notLight ⌝ }
+// What a line changes, where it is a light call.
+fn light_line(account: Account, line: Parsed) -> Light
+    requires { ⌜ whole account ≡ true ⌝ }
+    ensures { λ r. ⌜ r ≡ lightLine account line ⌝ }
 {
-    if !known {
-        return account::light::not_light();
-    }
     match line {
         Parsed::Frame(call) => account::light::changes(account, call),
         Parsed::NotAFrame => account::light::not_light(),
@@ -93,36 +76,28 @@ fn light_line(account: Account, line: Parsed, known: bool) -> Light
 }
 
 // What a piece leaves.
-fn handed_back(account: Account, length: usize, line: [u8; 31], taken: usize, written: usize) -> Fed
-    ensures { λ r. ⌜ r ≡ record { state = record { account = account; length = length; line = line }; taken = taken; written = written } ⌝ }
+fn handed_back(account: Account, kept: usize, line: [u8; 31], taken: usize, filled: usize) -> Fed
+    ensures { λ r. ⌜ r ≡ record { state = record { account = account; length = kept; line = line }; taken = taken; written = filled } ⌝ }
 {
     Fed {
         state: State {
             account,
-            length,
+            length: kept,
             line,
         },
         taken,
-        written,
+        written: filled,
     }
 }
 
 // Takes a piece of the input and fills out from its start. What is not taken for want of room is to be fed again.
+// Every account that a new one leads to is whole, so number 41 is not asked.
 pub fn feed(state: State, input: &[u8], out: &mut [u8]) -> Fed
+    requires { ⌜ Reached (state .account) ⌝ }
     ensures { λ r. ⌜ r ≡ fedOf (feeding (length (now (out .entry))) state (now (input .entry))) ⌝ }
     ensures { λ _. ⌜ now (out .exit) ≡ written (now (out .entry)) 0 (feeding (length (now (out .entry))) state (now (input .entry)) .output) ⌝ }
     ensures { λ r. ⌜ (r .taken ≤ length (now (input .entry))) × (r .written ≤ length (now (out .entry))) ⌝ }
-{
-    feed_as(state, input, out, false)
-}
-
-// The same, for a state that may be known to come from a new account.
-pub fn feed_as(state: State, input: &[u8], out: &mut [u8], known: bool) -> Fed
-    requires { ⌜ (known ≡ true → Reached (state .account)) ⌝ }
-    ensures { λ r. ⌜ r ≡ fedOf (feeding (length (now (out .entry))) state (now (input .entry))) ⌝ }
-    ensures { λ _. ⌜ now (out .exit) ≡ written (now (out .entry)) 0 (feeding (length (now (out .entry))) state (now (input .entry)) .output) ⌝ }
-    ensures { λ r. ⌜ (r .taken ≤ length (now (input .entry))) × (r .written ≤ length (now (out .entry))) ⌝ }
-    ensures { λ r. ⌜ (known ≡ true → Reached (r .state .account)) ⌝ }
+    ensures { λ r. ⌜ Reached (r .state .account) ⌝ }
 {
     let table = wire::digit_table();
     let mut account = state.account;
@@ -137,8 +112,8 @@ pub fn feed_as(state: State, input: &[u8], out: &mut [u8], known: bool) -> Fed
                 return handed_back(account, length, line, taken, written);
             }
             let end = shown_length(length);
-            let parsed = wire::decode_by(&line[..end], &table);
-            let light = light_line(account, parsed, known);
+            let parsed = wire::decode(&line[..end], &table);
+            let light = light_line(account, parsed);
             length = 0;
             taken += 1;
             if light.applies {
@@ -146,7 +121,7 @@ pub fn feed_as(state: State, input: &[u8], out: &mut [u8], known: bool) -> Fed
                 written = wire::put_answer(account::light::answer(account), out, written);
                 continue;
             }
-            let outcome = answer_line(account, parsed, known);
+            let outcome = answer_line(account, parsed);
             written = wire::put_answer(outcome.answer, out, written);
             account = outcome.account;
             continue;
@@ -162,24 +137,15 @@ pub fn feed_as(state: State, input: &[u8], out: &mut [u8], known: bool) -> Fed
 }
 
 // The characters kept of a line.
-fn shown_length(length: usize) -> usize
-    ensures { λ r. ⌜ r ≡ min length 31 ⌝ }
+fn shown_length(count: usize) -> usize
+    ensures { λ r. ⌜ r ≡ min count 31 ⌝ }
 {
-    if length < 31 { length } else { 31 }
+    if count < 31 { count } else { 31 }
 }
 
 // The end of the input: ends a line that has begun.
 pub fn finish(state: State, out: &mut [u8]) -> Fed
-    ensures { λ r. ⌜ r ≡ fedOf (finishing (length (now (out .entry))) state) ⌝ }
-    ensures { λ _. ⌜ now (out .exit) ≡ written (now (out .entry)) 0 (finishing (length (now (out .entry))) state .output) ⌝ }
-    ensures { λ r. ⌜ r .written ≤ length (now (out .entry)) ⌝ }
-{
-    finish_as(state, out, false)
-}
-
-// The same, for a state that may be known to come from a new account.
-pub fn finish_as(state: State, out: &mut [u8], known: bool) -> Fed
-    requires { ⌜ (known ≡ true → Reached (state .account)) ⌝ }
+    requires { ⌜ Reached (state .account) ⌝ }
     ensures { λ r. ⌜ r ≡ fedOf (finishing (length (now (out .entry))) state) ⌝ }
     ensures { λ _. ⌜ now (out .exit) ≡ written (now (out .entry)) 0 (finishing (length (now (out .entry))) state .output) ⌝ }
     ensures { λ r. ⌜ r .written ≤ length (now (out .entry)) ⌝ }
@@ -192,7 +158,7 @@ pub fn finish_as(state: State, out: &mut [u8], known: bool) -> Fed
         };
     }
     let end = [10u8; 1];
-    feed_as(state, &end, out, known)
+    feed(state, &end, out)
 }
 
 // The notices of an account's open items, and their length; where out is too short for it, nothing is written.
@@ -228,12 +194,18 @@ fn put_items(ledger: Ledger, out: &mut [u8])
     }
 }
 
-// A part of the output, at its place, if it is to be written.
+// A part of the output, at its place, if it is to be written. It looks at the room that is left, and trusts no size measured before:
+// a caller in another language may have changed the input since.
 fn put_part(part: &[u8], out: &mut [u8], at: usize, writing: bool)
-    requires { ⌜ (writing ≡ true → at + length (now part) ≤ length (now out)) ⌝ }
-    ensures { λ _. ⌜ now (out .exit) ≡ cond writing (written (now (out .entry)) at (now (part .entry))) (now (out .entry)) ⌝ }
+    ensures { λ _. ⌜ now (out .exit) ≡ cond writing (fittedAt (now (out .entry)) at (now (part .entry))) (now (out .entry)) ⌝ }
 {
     if !writing {
+        return;
+    }
+    if out.len() < at {
+        return;
+    }
+    if out.len() - at < part.len() {
         return;
     }
     let mut i: usize = 0;
@@ -255,17 +227,17 @@ fn work_input(input: &[u8], out: &mut [u8], writing: bool) -> Billed
     let mut taken: usize = 0;
     let mut size: usize = 0;
     while taken < input.len() {
-        let fed = feed_as(state, &input[taken..], &mut space, true);
-        let written = fed.written;
-        put_part(&space[..written], out, size, writing);
+        let fed = feed(state, &input[taken..], &mut space);
+        let filled = fed.written;
+        put_part(&space[..filled], out, size, writing);
         state = fed.state;
         taken += fed.taken;
-        size += written;
+        size += filled;
     }
-    let last = finish_as(state, &mut space, true);
-    let written = last.written;
-    put_part(&space[..written], out, size, writing);
-    size += written;
+    let last = finish(state, &mut space);
+    let filled = last.written;
+    put_part(&space[..filled], out, size, writing);
+    size += filled;
     let end = last.state;
     let account = end.account;
     Billed { account, size }

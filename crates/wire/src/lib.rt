@@ -89,15 +89,7 @@ fn number(line: &[u8], table: &[u8], from: usize, width: usize) -> u32
 }
 
 // A line to the call that it is.
-pub fn decode(line: &[u8]) -> Parsed
-    ensures { λ r. ⌜ r ≡ parsed (now (line .entry)) ⌝ }
-{
-    let table = digit_table();
-    decode_by(line, &table)
-}
-
-// The same, by a table that is there already.
-pub fn decode_by(line: &[u8], table: &[u8]) -> Parsed
+pub fn decode(line: &[u8], table: &[u8]) -> Parsed
     requires { ⌜ DigitTable (now table) ⌝ }
     ensures { λ r. ⌜ r ≡ parsed (now (line .entry)) ⌝ }
 {

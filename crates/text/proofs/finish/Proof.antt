@@ -1,16 +1,25 @@
-use mathlib.Core.Bool.{false≢true}
+use native.Mathlib.Omega.{arith}
+use lib.ListN.{length}
+use mathlib.Core.Path.{refl}
+use Rattle.text.proofs.Feeding.{finish-none, finish-line}
 use borrow.Author.Needs.{needs}
 use Rattle.text.proofs.finish.Statement.{statement}
 use Rattle.text.proofs.finish.Tie as tie
 
-finish-as-requires : tie.Need-finish-as-requires
-finish-as-requires c κs = λ e. absurd (false≢true e)
+returns : tie.Need-returns
+returns c = rw (finish-none (length (c .before .before .before .args .out .now)) (c .before .before .before .args .state) (c .if1 .taken)) (refl, (refl, omega arith))
+
+slice-aggregate-feed : tie.Need-slice-aggregate-feed
+slice-aggregate-feed c = search needs
+
+feed-requires : tie.Need-feed-requires
+feed-requires c κs = search needs
 
 same-length : tie.Need-same-length
 same-length c = search needs
 
-returns : tie.Need-returns
-returns c = search needs
+returns-2 : tie.Need-returns-2
+returns-2 c = rw (finish-line (length (c .before .before .before .before .before .before .before .before .args .out .now)) (c .before .before .before .before .before .before .before .before .args .state) (c .before .before .before .before .before .if1 .left)) (c .before .before .feed .ensures .0, (c .before .before .feed .ensures .1 .0, c .before .before .feed .ensures .1 .1 .0 .1))
 
 pub finish-spec : {M : Type 1} → statement M
-finish-spec = tie.close (tie.spec finish-as-requires same-length returns)
+finish-spec = tie.close (tie.spec returns slice-aggregate-feed feed-requires same-length returns-2)

@@ -1,64 +1,83 @@
+-- Where the part is to be written and fits, it is stored byte after byte; otherwise nothing is. Invariant: to write the rest of the
+-- part behind what was stored is to write the whole part.
 use mathlib.Core.Path.{_≡_, refl, sym, ap, _∙_}
+use mathlib.Core.Bool.{true}
+use mathlib.Core.List.{List}
 use Prim.Native.Nat.{ℕ, suc, _+_, _-_, _≤_}
 use native.Mathlib.Omega.{arith}
 use native.Mathlib.Nat.{add-zero}
 use native.Mathlib.Numerals.{add-one}
 use lib.ListN.{length, getD, set, drop, length-set, drop-of-length-le}
 use lib.Seq.{drop-cons}
-use borrow.Author.Tests.{not-true, not-false}
+use borrow.Author.Tests.{le-leb, lt-leb, not-true, not-false}
 use Rattle.wire.specs.Digits.{written}
 use Rattle.text.proofs.put_part.Statement.{statement}
 use Rattle.text.proofs.put_part.Tie as tie
 
 abbrev Inv-loop : tie.InvT-loop
-Inv-loop part out₀ at writing i₀ out i = (i ≤ length part) × (length out ≡ length out₀) × (written out₀ at part ≡ written out (at + i) (drop i part))
+Inv-loop part out₀ at writing i₀ out i =
+    record {
+      within : i ≤ length part;
+      out-long : length out ≡ length out₀;
+      rest : written out₀ at part ≡ written out (at + i) (drop i part);
+    }
 
 abbrev μ-loop : tie.MeasureT-loop
 μ-loop part out₀ at writing i₀ out i = length part - i
 
-room : (c : tie.Else1 Inv-loop μ-loop) → c .before .args .at + length (c .before .args .part .now) ≤ length (c .before .args .out .now)
-room c = c .before .pre (not-false (c .before .args .writing) (c .if1 .left))
+abbrev Walk : (tie.InvT-loop → tie.MeasureT-loop → Type 0) → Type 0
+Walk T = T Inv-loop μ-loop
 
-place : (at i : ℕ) → suc (at + i) ≡ at + (i + 1)
-place at i = omega arith
+module _ (s : Walk tie.Start) where
+  abbrev part : List ℕ
+  part = s .args .part .now
 
-returns : tie.Need-returns Inv-loop μ-loop
-returns c = rw (not-true (c .before .args .writing) (c .if1 .taken)) refl
+  abbrev at : ℕ
+  at = s .args .at
 
-loop-holds : tie.Need-loop-holds Inv-loop μ-loop
-loop-holds c = (omega arith, refl, rw (add-zero (c .before .args .at)) refl)
+-- it is to be written, and fits
+asked : (c : Walk tie.Else1) → c .before .args .writing ≡ true
+asked c = not-false (c .before .args .writing) (c .if1 .left)
 
-shared-slice-read-out : tie.Need-shared-slice-read-out Inv-loop μ-loop
-shared-slice-read-out c = omega arith
+room : (c : Walk tie.Else3) → at (c .before .before .before) + length (part (c .before .before .before)) ≤ length (c .before .before .before .args .out .now)
+room c = omega (arith, c .before .if2 .left, c .if3 .left)
 
-add-out : tie.Need-add-out Inv-loop μ-loop
-add-out c = omega (arith, room (c .before .before .before))
+returns-2 : Walk tie.Need-returns-2
+returns-2 c =
+    let s : Walk tie.Start = search in
+    rw (asked (c .before), lt-leb (at s + length (part s)) (length (s .args .out .now)) (omega (arith, c .if2 .taken))) refl
 
-slice-write-out : tie.Need-slice-write-out Inv-loop μ-loop
-slice-write-out c = omega (arith, room (c .before .before .before))
+returns-3 : Walk tie.Need-returns-3
+returns-3 c =
+    let s : Walk tie.Start = search in
+    rw (asked (c .before .before), lt-leb (at s + length (part s)) (length (s .args .out .now)) (omega (arith, c .if3 .taken))) refl
 
-add-i : tie.Need-add-i Inv-loop μ-loop
-add-i c = omega arith
+loop-again : Walk tie.Need-loop-again
+loop-again c =
+    let s : Walk tie.Start = search in
+    let l : Walk tie.At-loop = search in
+    let out = l .loop .out in
+    let i = l .loop .i in
+    let place : suc (at s + i) ≡ at s + (i + 1) = omega arith in
+    let next : suc i ≡ i + 1 = sym (add-one i) in
+    let byte = getD (part s) i 0 in
+    record {
+      within = omega arith;
+      out-long = length-set out (at s + i) byte ∙ l .loop .inv .out-long;
+      rest =
+          l .loop .inv .rest ∙
+          ap (written out (at s + i)) (drop-cons (part s) i 0 (omega arith)) ∙
+          (λ k. written (set out (at s + i) byte) (place k) (drop (next k) (part s)));
+    }
 
-loop-less : tie.Need-loop-less Inv-loop μ-loop
-loop-less c = omega arith
-
-loop-again : tie.Need-loop-again Inv-loop μ-loop
-loop-again c = let out = c .before .before .loop .out in
-    let part = c .before .before .before .before .args .part .now in
-    let at = c .before .before .before .before .args .at in
-    let i = c .before .before .loop .i in (
-      omega arith,
-      length-set out (at + i) (getD part i 0) ∙ c .before .before .loop .inv .1,
-      c .before .before .loop .inv .2 ∙ ap (written out (at + i)) (drop-cons part i 0 (omega arith)) ∙ ap (λ n. written (set out (at + i) (getD part i 0)) n (drop (suc i) part)) (place at i) ∙ ap (λ n. written (set out (at + i) (getD part i 0)) (at + (i + 1)) (drop n part)) (sym (add-one i)),
-    )
-
-same-length : tie.Need-same-length Inv-loop μ-loop
-same-length c = c .before .loop .inv .1
-
-returns-2 : tie.Need-returns-2 Inv-loop μ-loop
-returns-2 c = let done = drop-of-length-le (c .before .before .before .args .part .now) {i = c .before .loop .i} (omega arith) in
-    rw (not-false (c .before .before .before .args .writing) (c .before .before .if1 .left)) (sym (c .before .loop .inv .2 ∙ ap (written (c .before .loop .out) (c .before .before .before .args .at + c .before .loop .i)) done))
+returns-4 : Walk tie.Need-returns-4
+returns-4 c =
+    let s : Walk tie.Start = search in
+    let l : Walk tie.At-loop = search in
+    let fits : Walk tie.Else3 = search in
+    let done = drop-of-length-le (part s) {i = l .loop .i} (omega arith) in
+    rw (asked (fits .before .before), le-leb (at s + length (part s)) (length (s .args .out .now)) (room fits))
+    (sym (l .loop .inv .rest ∙ ap (written (l .loop .out) (at s + l .loop .i)) done))
 
 pub put-part-spec : {M : Type 1} → statement M
 put-part-spec =
@@ -66,13 +85,16 @@ put-part-spec =
     (tie.spec
     Inv-loop
     μ-loop
-    returns
-    loop-holds
-    shared-slice-read-out
-    add-out
-    slice-write-out
-    add-i
-    loop-less
+    (λ c. rw (not-true (c .before .args .writing) (c .if1 .taken)) refl)  -- returns
+    returns-2
+    (λ c. c .if2 .left)  -- sub-if3
+    returns-3
+    (λ c. record { within = omega arith; out-long = refl; rest = rw (add-zero (at (c .before .before .before))) refl })  -- loop-holds
+    (λ c. omega arith)  -- shared-slice-read-out
+    (λ c. let fits : Walk tie.Else3 = search in omega (arith, room fits))  -- add-out
+    (λ c. let fits : Walk tie.Else3 = search in omega (arith, room fits))  -- slice-write-out
+    (λ c. omega arith)  -- add-i
+    (λ c. omega arith)  -- loop-less
     loop-again
-    same-length
-    returns-2)
+    (λ c. let l : Walk tie.At-loop = search in l .loop .inv .out-long)  -- same-length
+    returns-4)

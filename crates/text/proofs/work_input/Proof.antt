@@ -1,181 +1,245 @@
+-- The input is fed piece by piece, and each piece's output goes behind what stands in `out` if it is to be written; all of the output
+-- fits there, so each piece's does (`room`, `shown-fits`). Invariant (`Working`): the state, the size and `out` are what the input
+-- taken so far makes. One piece is `working-on`, the end of the input `working-end`.
 use mathlib.Core.Path.{_≡_, refl, sym, ap, _∙_}
+use mathlib.Core.Bool.{Bool, true}
+use mathlib.Core.List.{List, []}
 use Prim.Native.Nat.{ℕ, _+_, _-_, _*_, _≤_}
 use native.Mathlib.Omega.{arith}
-use mathlib.Core.Bool.{true, cond}
-use mathlib.Core.List.{List, []}
 use lib.ListN.{length, take, drop, length-drop}
 use lib.Seq.{take-all, length-take-le}
+use borrow.Author.Needs.{needs}
 use Rattle.wire.specs.Digits.{written}
 use Rattle.text.specs.declared.Fed.{Fed}
 use Rattle.text.specs.Feeding.{Feeding, feeding, finishing, fedOf}
 use Rattle.text.specs.Pieces.{linesIn}
+use Rattle.text.specs.Reached.{Reached}
 use Rattle.text.proofs.Reached.{reached-lines}
 use Rattle.text.proofs.Feeding.{taken-some}
-use borrow.Author.Needs.{needs}
-use Rattle.text.proofs.Working.{shown-part, made-within, Working, working-start, working-on, Worked, working-end}
+use Rattle.text.proofs.Working.{shown, shown-fits, shown-part, made-within, Working, working-start, working-on, working-end}
 use Rattle.text.proofs.work_input.Statement.{statement}
 use Rattle.text.proofs.work_input.Tie as tie
 
 abbrev Inv-loop : tie.InvT-loop
 Inv-loop input out₀ writing state₀ space₀ taken₀ size₀ out state space taken size =
-    (taken ≤ length input) × (length out ≡ length out₀) × (length space ≡ 4096) × (size ≤ 4096 * taken) × Working input out₀ writing out state taken size
+    record {
+      within : taken ≤ length input;
+      out-long : length out ≡ length out₀;
+      space-long : length space ≡ 4096;
+      size-most : size ≤ 4096 * taken;
+      working : Working input out₀ writing out state taken size;
+    }
 
 abbrev μ-loop : tie.MeasureT-loop
 μ-loop input out₀ writing state₀ space₀ taken₀ size₀ out state space taken size = length input - taken
 
--- what the rest of the input makes
-abbrev fed : tie.After-feed-as Inv-loop μ-loop → Feeding
-fed c = feeding 4096 (c .before .before .before .before .loop .state) (drop (c .before .before .before .before .loop .taken) (c .before .before .before .before .before .before .before .before .args .input .now))
+abbrev Walk : (tie.InvT-loop → tie.MeasureT-loop → Type 0) → Type 0
+Walk T = T Inv-loop μ-loop
 
-same : (c : tie.After-feed-as Inv-loop μ-loop) → feeding (length (c .before .before .before .before .loop .space)) (c .before .before .before .before .loop .state) (take (length (c .before .before .before .before .before .before .before .before .args .input .now) - c .before .before .before .before .loop .taken) (drop (c .before .before .before .before .loop .taken) (c .before .before .before .before .before .before .before .before .args .input .now))) ≡ fed c
-same c =
-    let input = c .before .before .before .before .before .before .before .before .args .input .now in
-    let taken = c .before .before .before .before .loop .taken in
-    let long = length-drop taken input in
-    ap (λ n. feeding n (c .before .before .before .before .loop .state) (take (length input - taken) (drop taken input))) (c .before .before .before .before .loop .inv .2) ∙ ap (feeding 4096 (c .before .before .before .before .loop .state)) (take-all (length input - taken) (drop taken input) (omega (arith, long)))
+-- Places: before a piece, it is fed, its output is put; the end is made, and its output is put.
+abbrev At : Type 0
+At = Walk tie.At-loop
 
-fed-is : (c : tie.After-feed-as Inv-loop μ-loop) → c .feed-as .result ≡ fedOf (fed c)
-fed-is c = c .feed-as .ensures .0 ∙ ap fedOf (same c)
+abbrev FedAt : Type 0
+FedAt = Walk tie.After-feed
 
-space-long : (c : tie.After-feed-as Inv-loop μ-loop) → length (c .feed-as .last .1 .1 .0) ≡ 4096
-space-long c = search needs
+abbrev PutAt : Type 0
+PutAt = Walk tie.After-put-part
 
-written-most : (c : tie.After-feed-as Inv-loop μ-loop) → c .feed-as .result .written ≤ 4096
-written-most c = rw (← c .before .before .before .before .loop .inv .2) (c .feed-as .ensures .1 .1 .0 .1)
+abbrev EndAt : Type 0
+EndAt = Walk tie.After-finish
 
-taken-most : (c : tie.After-feed-as Inv-loop μ-loop) → c .before .before .before .before .loop .taken + c .feed-as .result .taken ≤ length (c .before .before .before .before .before .before .before .before .args .input .now)
-taken-most c =
-    let input = c .before .before .before .before .before .before .before .before .args .input .now in
-    let taken = c .before .before .before .before .loop .taken in
-    let long = length-drop taken input in
-    let part = length-take-le (length input - taken) (drop taken input) (omega (arith, long)) in
-    omega (arith, part, c .feed-as .ensures .1 .1 .0 .0)
+abbrev LastAt : Type 0
+LastAt = Walk tie.After-put-part2
 
-taken-more : (c : tie.After-feed-as Inv-loop μ-loop) → 1 ≤ c .feed-as .result .taken
-taken-more c =
-    let input = c .before .before .before .before .before .before .before .before .args .input .now in
-    let long = length-drop (c .before .before .before .before .loop .taken) input in
-    rw (ap (λ (f : Fed). f .taken) (fed-is c)) (taken-some 4096 (c .before .before .before .before .loop .state) (drop (c .before .before .before .before .loop .taken) input) (omega arith) (omega (arith, long)))
+-- The call's arguments, the input ahead and what it makes, the end, and `out` with one more part.
+module _ (l : At) where
+  abbrev start : Walk tie.Start
+  start = l .before .before .before .before
 
--- what was written of it stands in the space lent
-part-is : (c : tie.After-feed-as Inv-loop μ-loop) → take (c .feed-as .result .written) (c .feed-as .last .1 .1 .0) ≡ fed c .output
-part-is c =
-    let count : c .feed-as .result .written ≡ length (fed c .output) = ap (λ (f : Fed). f .written) (fed-is c) in
-    ap (λ n. take n (c .feed-as .last .1 .1 .0)) count ∙ ap (take (length (fed c .output))) (c .feed-as .ensures .1 .0 ∙ ap (λ (f : Feeding). written (c .before .before .before .before .loop .space) 0 (f .output)) (same c)) ∙ shown-part (c .before .before .before .before .loop .space) (fed c .output) (omega (arith, count, written-most c, c .before .before .before .before .loop .inv .2))
+  abbrev input : List ℕ
+  input = start .args .input .now
 
--- the work behind this piece
-next : (c : tie.After-feed-as Inv-loop μ-loop) (out : List ℕ) → out ≡ cond (c .before .before .before .before .before .before .before .before .args .writing) (written (c .before .before .before .before .loop .out) (c .before .before .before .before .loop .size) (fed c .output)) (c .before .before .before .before .loop .out) → Working (c .before .before .before .before .before .before .before .before .args .input .now) (c .before .before .before .before .before .before .before .before .args .out .now) (c .before .before .before .before .before .before .before .before .args .writing) out (fed c .state) (c .before .before .before .before .loop .taken + fed c .taken) (c .before .before .before .before .loop .size + length (fed c .output))
-next c out e = working-on (c .before .before .before .before .before .before .before .before .args .input .now) (c .before .before .before .before .before .before .before .before .args .out .now) (c .before .before .before .before .before .before .before .before .args .writing) (c .before .before .before .before .loop .out) out (c .before .before .before .before .loop .state) (c .before .before .before .before .loop .taken) (c .before .before .before .before .loop .size) 4096 (c .before .before .before .before .loop .inv .4) e
+  abbrev writing : Bool
+  writing = start .args .writing
 
--- the end of the input
-abbrev last : tie.After-finish-as Inv-loop μ-loop → Feeding
-last c = finishing 4096 (c .before .before .before .loop .state)
+  abbrev ahead : List ℕ
+  ahead = drop (l .loop .taken) input
 
-last-is : (c : tie.After-finish-as Inv-loop μ-loop) → c .finish-as .result ≡ fedOf (last c)
-last-is c = c .finish-as .ensures .0 ∙ ap (λ n. fedOf (finishing n (c .before .before .before .loop .state))) (c .before .before .before .loop .inv .2)
+  abbrev fed : Feeding
+  fed = feeding 4096 (l .loop .state) ahead
 
-last-long : (c : tie.After-finish-as Inv-loop μ-loop) → length (c .finish-as .last .1 .0) ≡ 4096
+  abbrev last : Feeding
+  last = finishing 4096 (l .loop .state)
+
+  abbrev put : List ℕ → List ℕ
+  put part = shown writing (l .loop .out) (l .loop .size) part
+
+  ahead-long : length ahead ≡ length input - l .loop .taken
+  ahead-long = length-drop (l .loop .taken) input
+
+  reached : Reached (l .loop .state .account)
+  reached =
+      let lines = linesIn [] (take (l .loop .taken) input) in
+      reached-lines (l .loop .state .account) lines (l .loop .inv .working .stands .account-is)
+
+-- A piece is fed.
+module _ (c : FedAt) where
+  abbrev l : At
+  l = c .before .before .before .before
+
+  abbrev space : List ℕ
+  space = c .feed .last .1 .1 .0
+
+  same : feeding (length (l .loop .space)) (l .loop .state) (take (length (input l) - l .loop .taken) (ahead l)) ≡ fed l
+  same =
+      let all = take-all (length (input l) - l .loop .taken) (ahead l) (omega (arith, ahead-long l)) in
+      λ i. feeding (l .loop .inv .space-long i) (l .loop .state) (all i)
+
+  fed-is : c .feed .result ≡ fedOf (fed l)
+  fed-is = c .feed .ensures .0 ∙ ap fedOf same
+
+  space-long : length space ≡ 4096
+  space-long = search needs
+
+  written-most : c .feed .result .written ≤ 4096
+  written-most = rw (← l .loop .inv .space-long) (c .feed .ensures .1 .1 .0 .1)
+
+  taken-most : l .loop .taken + c .feed .result .taken ≤ length (input l)
+  taken-most =
+      let part = length-take-le (length (input l) - l .loop .taken) (ahead l) (omega (arith, ahead-long l)) in
+      omega (arith, part, c .feed .ensures .1 .1 .0 .0)
+
+  taken-more : 1 ≤ c .feed .result .taken
+  taken-more =
+      let t : Walk tie.In-loop = search in
+      let some = taken-some 4096 (l .loop .state) (ahead l) (omega arith) (omega (arith, ahead-long l, t .loop-test .taken)) in
+      rw (ap (λ (f : Fed). f .taken) fed-is) some
+
+  part-is : take (c .feed .result .written) space ≡ fed l .output
+  part-is =
+      let count : c .feed .result .written ≡ length (fed l .output) = ap (λ (f : Fed). f .written) fed-is in
+      let stands = c .feed .ensures .1 .0 ∙ ap (λ (f : Feeding). written (l .loop .space) 0 (f .output)) same in
+      (λ i. take (count i) (stands i)) ∙
+      shown-part (l .loop .space) (fed l .output) (omega (arith, count, written-most, l .loop .inv .space-long))
+
+  room : writing l ≡ true → l .loop .size + length (take (c .feed .result .written) space) ≤ length (l .loop .out)
+  room e =
+      let w = working-on (l .loop .inv .working) 4096 {out′ = put l (fed l .output)} refl in
+      let within = made-within (input l) (l .loop .taken + fed l .taken) in
+      rw part-is (omega (arith, w .size-is, within, start l .pre .1 e, l .loop .inv .out-long))
+
+-- The end is made.
+module _ (c : EndAt) where
+  abbrev e : At
+  e = c .before .before .before
+
+  abbrev end-space : List ℕ
+  end-space = c .finish .last .1 .0
+
+  last-is : c .finish .result ≡ fedOf (last e)
+  last-is = c .finish .ensures .0 ∙ ap (λ n. fedOf (finishing n (e .loop .state))) (e .loop .inv .space-long)
+
+  end-long : length end-space ≡ 4096
+  end-long = search needs
+
+  last-most : c .finish .result .written ≤ 4096
+  last-most = rw (← e .loop .inv .space-long) (c .finish .ensures .1 .1)
+
+  all-taken : length (input e) ≤ e .loop .taken
+  all-taken = let t : Walk tie.After-loop = search in t .loop-test .left
+
+  last-part : take (c .finish .result .written) end-space ≡ last e .output
+  last-part =
+      let count : c .finish .result .written ≡ length (last e .output) = ap (λ (f : Fed). f .written) last-is in
+      let same = ap (λ n. written (e .loop .space) 0 (finishing n (e .loop .state) .output)) (e .loop .inv .space-long) in
+      let stands = c .finish .ensures .1 .0 ∙ same in
+      (λ i. take (count i) (stands i)) ∙
+      shown-part (e .loop .space) (last e .output) (omega (arith, count, last-most, e .loop .inv .space-long))
+
+  last-room : writing e ≡ true → e .loop .size + length (take (c .finish .result .written) end-space) ≤ length (e .loop .out)
+  last-room asked =
+      let w = working-end (e .loop .inv .working) 4096 {out′ = put e (last e .output)} (omega arith) all-taken refl in
+      rw last-part (omega (arith, w .size-is, start e .pre .1 asked, e .loop .inv .out-long))
+
+-- `out` is as long as it was.
+put-long : (c : PutAt) → length (c .put-part .last .1 .0) ≡ length (l (c .before .before .before .before) .loop .out)
+put-long c = search needs
+
+last-long : (c : LastAt) → length (c .put-part2 .last .1 .0) ≡ length (e (c .before .before .before .before) .loop .out)
 last-long c = search needs
 
-last-most : (c : tie.After-finish-as Inv-loop μ-loop) → c .finish-as .result .written ≤ 4096
-last-most c = rw (← c .before .before .before .loop .inv .2) (c .finish-as .ensures .1 .1)
+loop-holds : Walk tie.Need-loop-holds
+loop-holds c =
+    let s : Walk tie.Start = search in
+    record {
+      within = omega arith;
+      out-long = refl;
+      space-long = refl;
+      size-most = omega arith;
+      working = rw (c .new .ensures) (working-start (s .args .input .now) (s .args .out .now) (s .args .writing));
+    }
 
-last-part : (c : tie.After-finish-as Inv-loop μ-loop) → take (c .finish-as .result .written) (c .finish-as .last .1 .0) ≡ last c .output
-last-part c =
-    let count : c .finish-as .result .written ≡ length (last c .output) = ap (λ (f : Fed). f .written) (last-is c) in
-    ap (λ n. take n (c .finish-as .last .1 .0)) count ∙ ap (take (length (last c .output))) (c .finish-as .ensures .1 .0 ∙ ap (λ n. written (c .before .before .before .loop .space) 0 (finishing n (c .before .before .before .loop .state) .output)) (c .before .before .before .loop .inv .2)) ∙ shown-part (c .before .before .before .loop .space) (last c .output) (omega (arith, count, last-most c, c .before .before .before .loop .inv .2))
+array-share-prefix-space : Walk tie.Need-array-share-prefix-space
+array-share-prefix-space c = let f : FedAt = search in rw (space-long f) (written-most f)
 
-done : (c : tie.After-finish-as Inv-loop μ-loop) (out : List ℕ) → out ≡ cond (c .before .before .before .before .before .before .before .args .writing) (written (c .before .before .before .loop .out) (c .before .before .before .loop .size) (last c .output)) (c .before .before .before .loop .out) → Worked (c .before .before .before .before .before .before .before .args .input .now) (c .before .before .before .before .before .before .before .args .out .now) (c .before .before .before .before .before .before .before .args .writing) out (last c .state .account) (c .before .before .before .loop .size + length (last c .output))
-done c out e = working-end (c .before .before .before .before .before .before .before .args .input .now) (c .before .before .before .before .before .before .before .args .out .now) (c .before .before .before .before .before .before .before .args .writing) (c .before .before .before .loop .out) out (c .before .before .before .loop .state) (c .before .before .before .loop .taken) (c .before .before .before .loop .size) 4096 (omega arith) (omega arith) (c .before .before .before .loop .inv .4) e
+slice-aggregate-put-part : Walk tie.Need-slice-aggregate-put-part
+slice-aggregate-put-part c =
+    let f : FedAt = search in
+    sym (length-take-le (f .feed .result .written) (space f) (rw (space-long f) (written-most f)))
 
-room : (c : tie.After-feed-as Inv-loop μ-loop) → c .before .before .before .before .before .before .before .before .args .writing ≡ true → c .before .before .before .before .loop .size + length (take (c .feed-as .result .written) (c .feed-as .last .1 .1 .0)) ≤ length (c .before .before .before .before .loop .out)
-room c e =
-    let w = next c (cond (c .before .before .before .before .before .before .before .before .args .writing) (written (c .before .before .before .before .loop .out) (c .before .before .before .before .loop .size) (fed c .output)) (c .before .before .before .before .loop .out)) refl in
-    rw (part-is c) (omega (arith, w .size-is, made-within (c .before .before .before .before .before .before .before .before .args .input .now) (c .before .before .before .before .loop .taken + fed c .taken), c .before .before .before .before .before .before .before .before .pre .1 e, c .before .before .before .before .loop .inv .1))
+add-taken : Walk tie.Need-add-taken
+add-taken c = let f : FedAt = search in omega (arith, taken-most f, start (l f) .pre .0)
 
-put-length : (c : tie.After-put-part Inv-loop μ-loop) → length (c .put-part .last .1 .0) ≡ length (c .before .before .before .before .before .before .before .before .loop .out)
-put-length c = search needs
+add-size : Walk tie.Need-add-size
+add-size c =
+    let f : FedAt = search in
+    omega (arith, taken-most f, written-most f, l f .loop .inv .size-most, start (l f) .pre .0)
 
-last-room : (c : tie.After-finish-as Inv-loop μ-loop) → c .before .before .before .before .before .before .before .args .writing ≡ true → c .before .before .before .loop .size + length (take (c .finish-as .result .written) (c .finish-as .last .1 .0)) ≤ length (c .before .before .before .loop .out)
-last-room c e =
-    let w = done c (cond (c .before .before .before .before .before .before .before .args .writing) (written (c .before .before .before .loop .out) (c .before .before .before .loop .size) (last c .output)) (c .before .before .before .loop .out)) refl in
-    rw (last-part c) (omega (arith, w .size-is, c .before .before .before .before .before .before .before .pre .1 e, c .before .before .before .loop .inv .1))
+loop-again : Walk tie.Need-loop-again
+loop-again c =
+    let f : FedAt = search in
+    let p : PutAt = search in
+    let inv = l f .loop .inv in
+    let part = take (f .feed .result .written) (space f) in
+    let fits = shown-fits (writing (l f)) (l f .loop .out) (l f .loop .size) part (room f) in
+    let out-is = p .put-part .ensures ∙ fits ∙ ap (put (l f)) (part-is f) in
+    record {
+      within = taken-most f;
+      out-long = put-long p ∙ inv .out-long;
+      space-long = space-long f;
+      size-most = omega (arith, written-most f, taken-more f, inv .size-most);
+      working = rw (fed-is f) (working-on (inv .working) 4096 out-is);
+    }
 
-last-length : (c : tie.After-put-part2 Inv-loop μ-loop) → length (c .put-part2 .last .1 .0) ≡ length (c .before .before .before .before .before .before .before .loop .out)
-last-length c = search needs
+array-share-prefix-space-2 : Walk tie.Need-array-share-prefix-space-2
+array-share-prefix-space-2 c = let f : EndAt = search in rw (end-long f) (last-most f)
 
-new-requires : tie.Need-new-requires Inv-loop μ-loop
-new-requires c κs = tt
+slice-aggregate-put-part-2 : Walk tie.Need-slice-aggregate-put-part-2
+slice-aggregate-put-part-2 c =
+    let f : EndAt = search in
+    sym (length-take-le (f .finish .result .written) (end-space f) (rw (end-long f) (last-most f)))
 
-loop-holds : tie.Need-loop-holds Inv-loop μ-loop
-loop-holds c = (omega arith, refl, refl, omega arith, rw (c .new .ensures) (working-start (c .before .before .before .args .input .now) (c .before .before .before .args .out .now) (c .before .before .before .args .writing)))
+add-size-2 : Walk tie.Need-add-size-2
+add-size-2 c =
+    let f : EndAt = search in
+    omega (arith, last-most f, e f .loop .inv .size-most, e f .loop .inv .within, start (e f) .pre .0)
 
-sub-feed : tie.Need-sub-feed-as Inv-loop μ-loop
-sub-feed c = omega arith
+same-length : Walk tie.Need-same-length
+same-length c =
+    let p : LastAt = search in
+    let a : At = search in
+    last-long p ∙ a .loop .inv .out-long
 
-part-feed-start : tie.Need-part-feed-as-start Inv-loop μ-loop
-part-feed-start c = omega arith
-
-part-feed-end : tie.Need-part-feed-as-end Inv-loop μ-loop
-part-feed-end c = omega arith
-
-slice-aggregate-feed : tie.Need-slice-aggregate-feed-as Inv-loop μ-loop
-slice-aggregate-feed c = sym (c .before .before .before .loop .inv .2)
-
-feed-requires : tie.Need-feed-as-requires Inv-loop μ-loop
-feed-requires c κs = λ _. reached-lines (c .before .before .before .loop .state .account) (linesIn [] (take (c .before .before .before .loop .taken) (c .before .before .before .before .before .before .before .args .input .now))) (c .before .before .before .loop .inv .4 .stands .account-is)
-
-array-share-prefix-space : tie.Need-array-share-prefix-space Inv-loop μ-loop
-array-share-prefix-space c = rw (space-long (c .before)) (written-most (c .before))
-
-slice-aggregate-put-part : tie.Need-slice-aggregate-put-part Inv-loop μ-loop
-slice-aggregate-put-part c = sym (length-take-le (c .before .before .feed-as .result .written) (c .before .before .feed-as .last .1 .1 .0) (rw (space-long (c .before .before)) (written-most (c .before .before))))
-
-put-part-requires : tie.Need-put-part-requires Inv-loop μ-loop
-put-part-requires c κs = λ e. room (c .before .before .before) e
-
-add-taken : tie.Need-add-taken Inv-loop μ-loop
-add-taken c = omega (arith, taken-most (c .before .before .before .before .before .before .before .before), c .before .before .before .before .before .before .before .before .before .before .before .before .before .before .before .before .pre .0)
-
-add-size : tie.Need-add-size Inv-loop μ-loop
-add-size c = omega (arith, taken-most (c .before .before .before .before .before .before .before .before), written-most (c .before .before .before .before .before .before .before .before), c .before .before .before .before .before .before .before .before .before .before .before .before .loop .inv .3, c .before .before .before .before .before .before .before .before .before .before .before .before .before .before .before .before .pre .0)
-
-loop-less : tie.Need-loop-less Inv-loop μ-loop
-loop-less c = omega (arith, taken-most (c .before .before .before .before .before .before .before .before), taken-more (c .before .before .before .before .before .before .before .before))
-
-loop-again : tie.Need-loop-again Inv-loop μ-loop
-loop-again c = (
-  taken-most (c .before .before .before .before .before .before .before .before),
-  put-length (c .before .before .before .before) ∙ c .before .before .before .before .before .before .before .before .before .before .before .before .loop .inv .1,
-  space-long (c .before .before .before .before .before .before .before .before),
-  omega (arith, written-most (c .before .before .before .before .before .before .before .before), taken-more (c .before .before .before .before .before .before .before .before), c .before .before .before .before .before .before .before .before .before .before .before .before .loop .inv .3),
-  rw (fed-is (c .before .before .before .before .before .before .before .before)) (next (c .before .before .before .before .before .before .before .before) (c .before .before .before .before .put-part .last .1 .0) (c .before .before .before .before .put-part .ensures ∙ ap (λ xs. cond (c .before .before .before .before .before .before .before .before .before .before .before .before .before .before .before .before .args .writing) (written (c .before .before .before .before .before .before .before .before .before .before .before .before .loop .out) (c .before .before .before .before .before .before .before .before .before .before .before .before .loop .size) xs) (c .before .before .before .before .before .before .before .before .before .before .before .before .loop .out)) (part-is (c .before .before .before .before .before .before .before .before)))),
-)
-
-slice-aggregate-finish : tie.Need-slice-aggregate-finish-as Inv-loop μ-loop
-slice-aggregate-finish c = sym (c .before .before .loop .inv .2)
-
-finish-requires : tie.Need-finish-as-requires Inv-loop μ-loop
-finish-requires c κs = λ _. reached-lines (c .before .before .loop .state .account) (linesIn [] (take (c .before .before .loop .taken) (c .before .before .before .before .before .before .args .input .now))) (c .before .before .loop .inv .4 .stands .account-is)
-
-array-share-prefix-space-2 : tie.Need-array-share-prefix-space-2 Inv-loop μ-loop
-array-share-prefix-space-2 c = rw (last-long (c .before)) (last-most (c .before))
-
-slice-aggregate-put-part-2 : tie.Need-slice-aggregate-put-part-2 Inv-loop μ-loop
-slice-aggregate-put-part-2 c = sym (length-take-le (c .before .before .finish-as .result .written) (c .before .before .finish-as .last .1 .0) (rw (last-long (c .before .before)) (last-most (c .before .before))))
-
-put-part-requires-2 : tie.Need-put-part-requires-2 Inv-loop μ-loop
-put-part-requires-2 c κs = λ e. last-room (c .before .before .before) e
-
-add-size-2 : tie.Need-add-size-2 Inv-loop μ-loop
-add-size-2 c = omega (arith, last-most (c .before .before .before .before .before .before), c .before .before .before .before .before .before .before .before .before .loop .inv .3, c .before .before .before .before .before .before .before .before .before .before .before .before .before .pre .0)
-
-same-length : tie.Need-same-length Inv-loop μ-loop
-same-length c = last-length (c .before .before .before .before) ∙ c .before .before .before .before .before .before .before .before .before .before .before .loop .inv .1
-
-returns : tie.Need-returns Inv-loop μ-loop
-returns c = let w = done (c .before .before .before .before .before .before .before .before) (c .before .before .before .before .put-part2 .last .1 .0) (c .before .before .before .before .put-part2 .ensures ∙ ap (λ xs. cond (c .before .before .before .before .before .before .before .before .before .before .before .before .before .before .before .args .writing) (written (c .before .before .before .before .before .before .before .before .before .before .before .loop .out) (c .before .before .before .before .before .before .before .before .before .before .before .loop .size) xs) (c .before .before .before .before .before .before .before .before .before .before .before .loop .out)) (last-part (c .before .before .before .before .before .before .before .before))) in
-    (rw (last-is (c .before .before .before .before .before .before .before .before), w .account-is, w .size-is) refl, w .out-is)
+returns : Walk tie.Need-returns
+returns c =
+    let p : LastAt = search in
+    let f : EndAt = search in
+    let part = take (f .finish .result .written) (end-space f) in
+    let fits = shown-fits (writing (e f)) (e f .loop .out) (e f .loop .size) part (last-room f) in
+    let out-is = p .put-part2 .ensures ∙ fits ∙ ap (put (e f)) (last-part f) in
+    let w = working-end (e f .loop .inv .working) 4096 (omega arith) (all-taken f) out-is in
+    (rw (last-is f, w .account-is, w .size-is), w .out-is)
 
 pub work-input-spec : {M : Type 1} → statement M
 work-input-spec =
@@ -183,25 +247,25 @@ work-input-spec =
     (tie.spec
     Inv-loop
     μ-loop
-    new-requires
+    (λ c κs. tt)  -- new-requires
     loop-holds
-    sub-feed
-    part-feed-start
-    part-feed-end
-    slice-aggregate-feed
-    feed-requires
+    (λ c. omega arith)  -- sub-feed
+    (λ c. omega arith)  -- part-feed-start
+    (λ c. omega arith)  -- part-feed-end
+    (λ c. let a : At = search in sym (a .loop .inv .space-long))  -- slice-aggregate-feed
+    (λ c κs. let a : At = search in reached a)  -- feed-requires
     array-share-prefix-space
     slice-aggregate-put-part
-    put-part-requires
+    (λ c κs. tt)  -- put-part-requires
     add-taken
     add-size
-    loop-less
+    (λ c. let f : FedAt = search in omega (arith, taken-most f, taken-more f))  -- loop-less
     loop-again
-    slice-aggregate-finish
-    finish-requires
+    (λ c. let a : At = search in sym (a .loop .inv .space-long))  -- slice-aggregate-finish
+    (λ c κs. let a : At = search in reached a)  -- finish-requires
     array-share-prefix-space-2
     slice-aggregate-put-part-2
-    put-part-requires-2
+    (λ c κs. tt)  -- put-part-requires-2
     add-size-2
     same-length
     returns)

@@ -6,8 +6,8 @@ use Rattle.lists.specs.Every.{every}
 use Rattle.wire.specs.Digits.{isDigit}
 use Rattle.wire.proofs.Frames.{too-long, parsed-others, parsed-digits, no-frame}
 use borrow.Author.Needs.{needs}
-use Rattle.wire.proofs.decode_by.Statement.{statement}
-use Rattle.wire.proofs.decode_by.Tie as tie
+use Rattle.wire.proofs.decode.Statement.{statement}
+use Rattle.wire.proofs.decode.Tie as tie
 
 digits-all : (c : tie.Else2) → every isDigit (c .before .before .before .before .before .args .line .now) ≡ true
 digits-all c = sym (c .before .all-digits .ensures) ∙ not-false (c .before .all-digits .result) (c .if2 .left)
@@ -63,8 +63,8 @@ returns-9 c =
     (c .match .rest .0 .0 .0 .0 .0 .1) (c .match .rest .0 .0 .0 .0 .1) (c .match .rest .0 .0 .0 .1)
     (c .match .rest .0 .0 .1) (c .match .rest .0 .1) (c .match .rest .1))
 
-pub decode-by-spec : {M : Type 1} → statement M
-decode-by-spec =
+pub decode-spec : {M : Type 1} → statement M
+decode-spec =
     tie.close
     (tie.spec
     returns
