@@ -1,12 +1,11 @@
 // Reads standard input to its end and feeds it to the account, in blocks of 64 KiB.
 ghost use mathlib.Core.Path.{_≡_};
 ghost use mathlib.Core.Bool.{true};
-ghost use mathlib.Core.List.{List, _++_};
-ghost use Prim.Native.Nat.{ℕ};
+ghost use mathlib.Core.List.{_++_};
 ghost use Rattle.account.specs.Calls.{newAccount};
 ghost use Rattle.text.specs.Lines.{linesOf};
 ghost use Rattle.text.specs.Output.{accountAfter};
-ghost use Rattle.text.specs.Pieces.{Follows};
+ghost use Rattle.text.specs.Pieces.{Follows, Behind, LeftByLines};
 ghost use Rattle.text.specs.Reached.{Reached};
 use libc::STDIN_FILENO;
 use libc::STDOUT_FILENO;
@@ -30,17 +29,17 @@ fn print(text: &[u8], is_printing: bool) -> bool {
     is_written
 }
 
-// Feeds a block from its start to its end. All comes from a new account, so number 41 is not asked.
+// Feeds a block from its start to its end.
 fn feed_block(state: State, block: &[u8], is_printing: bool) -> Run
-    requires { ⌜ Reached (state .account) ⌝ }
+    requires { ⌜ Behind state ⌝ }
     ensures { λ r. ⌜ Reached (r .state .account) ⌝ }
-    ensures { λ r. ⌜ (r .sound ≡ true → (seen : List ℕ) → Follows seen state → Follows (seen ++ now (block .entry)) (r .state)) ⌝ }
+    ensures { λ r. ⌜ (r .sound ≡ true → (b : Behind state) → Follows (b .seen ++ now (block .entry)) (r .state)) ⌝ }
 {
     let mut state = state;
     let mut out = io::large_buffer();
     let mut at: usize = 0;
     while at < block.len() {
-        let fed = text::feed_as(state, &block[at..], &mut out, true);
+        let fed = text::feed(state, &block[at..], &mut out);
         let written = fed.written;
         state = fed.state;
         at += fed.taken;
@@ -56,19 +55,22 @@ fn feed_block(state: State, block: &[u8], is_printing: bool) -> Run
 
 // The end of the input.
 fn end_input(state: State, is_printing: bool) -> Run
-    requires { ⌜ Reached (state .account) ⌝ }
-    ensures { λ r. ⌜ ((seen : List ℕ) → Follows seen state → r .state .account ≡ accountAfter newAccount (linesOf seen)) ⌝ }
+    requires { ⌜ Behind state ⌝ }
+    ensures { λ r. ⌜ ((b : Behind state) → r .state .account ≡ accountAfter newAccount (linesOf (b .seen))) ⌝ }
 {
     let mut out = [0u8; 117];
-    let fed = text::finish_as(state, &mut out, true);
+    let fed = text::finish(state, &mut out);
     let written = fed.written;
     let sound = print(&out[..written], is_printing);
     let state = fed.state;
     Run { state, sound }
 }
 
-// Feeds all of standard input. What a failed read leaves half read is not taken for a line.
-pub fn feed_input(is_printing: bool) -> Run {
+// Feeds all of standard input. Where nothing failed, the account is the one that all lines read leave.
+// What a failed read leaves half read is not taken for a line.
+pub fn feed_input(is_printing: bool) -> Run
+    ensures { λ r. ⌜ (r .sound ≡ true → LeftByLines (r .state .account)) ⌝ }
+{
     let mut state = State::new();
     let mut block = io::large_buffer();
     // a proved loop has to end, and nothing says that the input does: no run uses up these turns

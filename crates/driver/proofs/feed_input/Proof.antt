@@ -1,76 +1,47 @@
-use mathlib.Core.Path.{_≡_, sym}
+-- Invariant: the state stands behind what was read so far. A block more is what was read with that block behind it, and at the end the
+-- account is the one that the lines of all that was read leave.
+use mathlib.Core.Path.{_≡_, sym, _∙_}
+use mathlib.Core.Bool.{false≢true}
+use mathlib.Core.List.{[]}
 use lib.ListN.{length}
-use Rattle.text.specs.Reached.{Reached}
-use Rattle.text.proofs.Reached.{reached-new}
 use borrow.Author.Needs.{needs}
+use borrow.Author.Tests.{not-true, not-false}
+use Rattle.text.specs.Pieces.{Behind}
+use Rattle.text.proofs.Pieces.{follows-start}
 use Rattle.driver.proofs.feed_input.Statement.{statement}
 use Rattle.driver.proofs.feed_input.Tie as tie
 
 abbrev Inv-loop : tie.InvT-loop
-Inv-loop is-printing state₀ block₀ turns₀ t8 state block turns = (length block ≡ 65536) × Reached (state .account)
+Inv-loop is-printing state₀ block₀ turns₀ t8 state block turns = (length block ≡ 65536) × Behind state
 
 abbrev μ-loop : tie.MeasureT-loop
 μ-loop is-printing state₀ block₀ turns₀ t8 state block turns = turns
 
-new-requires : tie.Need-new-requires Inv-loop μ-loop
-new-requires c κs = search needs
+abbrev Walk : (tie.InvT-loop → tie.MeasureT-loop → Type 0) → Type 0
+Walk T = T Inv-loop μ-loop
 
-large-buffer-requires : tie.Need-large-buffer-requires Inv-loop μ-loop
-large-buffer-requires c κs = search needs
+loop-holds : Walk tie.Need-loop-holds
+loop-holds c = (sym (c .large-buffer .ensures), record { seen = []; follows = rw (c .before .new .ensures) follows-start })
 
-loop-holds : tie.Need-loop-holds Inv-loop μ-loop
-loop-holds c = (sym (c .large-buffer .ensures), rw (c .before .new .ensures) reached-new)
+-- a read leaves the block as long as it was
+block-long : (c : Walk tie.After-read) → length (c .read .last .1 .0) ≡ 65536
+block-long c = search needs
 
-sub-turns : tie.Need-sub-turns Inv-loop μ-loop
-sub-turns c = search needs
+returns-2 : Walk tie.Need-returns-2
+returns-2 c = λ _.
+    let l : Walk tie.At-loop = search in
+    record { input = l .loop .inv .1 .seen; account-is = c .end-input .ensures (l .loop .inv .1) }
 
-slice-aggregate-read : tie.Need-slice-aggregate-read Inv-loop μ-loop
-slice-aggregate-read c = search needs
+returns-3 : Walk tie.Need-returns-3
+returns-3 c = λ e. absurd (false≢true (sym (not-true _ (c .if3 .taken)) ∙ e))
 
-read-requires : tie.Need-read-requires Inv-loop μ-loop
-read-requires c κs = search needs
-
-slice-aggregate-fail : tie.Need-slice-aggregate-fail Inv-loop μ-loop
-slice-aggregate-fail c = search needs
-
-fail-requires : tie.Need-fail-requires Inv-loop μ-loop
-fail-requires c κs = search needs
-
-returns : tie.Need-returns Inv-loop μ-loop
-returns c = search needs
-
-end-input-requires : tie.Need-end-input-requires Inv-loop μ-loop
-end-input-requires c κs = search needs
-
-returns-2 : tie.Need-returns-2 Inv-loop μ-loop
-returns-2 c = search needs
-
-slice-aggregate-count : tie.Need-slice-aggregate-count Inv-loop μ-loop
-slice-aggregate-count c = search needs
-
-count-requires : tie.Need-count-requires Inv-loop μ-loop
-count-requires c κs = search needs
-
-array-share-prefix-block : tie.Need-array-share-prefix-block Inv-loop μ-loop
-array-share-prefix-block c = search needs
-
-slice-aggregate-feed-block : tie.Need-slice-aggregate-feed-block Inv-loop μ-loop
-slice-aggregate-feed-block c = search needs
-
-feed-block-requires : tie.Need-feed-block-requires Inv-loop μ-loop
-feed-block-requires c κs = search needs
-
-returns-3 : tie.Need-returns-3 Inv-loop μ-loop
-returns-3 c = search needs
-
-loop-less : tie.Need-loop-less Inv-loop μ-loop
-loop-less c = search needs
-
-loop-again : tie.Need-loop-again Inv-loop μ-loop
-loop-again c = search needs
-
-returns-4 : tie.Need-returns-4 Inv-loop μ-loop
-returns-4 c = search needs
+loop-again : Walk tie.Need-loop-again
+loop-again c =
+    let l : Walk tie.At-loop = search in
+    let read : Walk tie.After-read = search in
+    let fed : Walk tie.After-feed-block = search in
+    let sound : Walk tie.Else3 = search in
+    (block-long read, record { seen = _; follows = fed .feed-block .ensures .1 (not-false _ (sound .if3 .left)) (l .loop .inv .1) })
 
 pub feed-input-spec : {M : Type 1} → statement M
 feed-input-spec =
@@ -78,23 +49,23 @@ feed-input-spec =
     (tie.spec
     Inv-loop
     μ-loop
-    new-requires
-    large-buffer-requires
+    (λ c κs. search needs)  -- new-requires
+    (λ c κs. search needs)  -- large-buffer-requires
     loop-holds
-    sub-turns
-    slice-aggregate-read
-    read-requires
-    slice-aggregate-fail
-    fail-requires
-    returns
-    end-input-requires
+    (λ c. search needs)  -- sub-turns
+    (λ c. search needs)  -- slice-aggregate-read
+    (λ c κs. search needs)  -- read-requires
+    (λ c. search needs)  -- slice-aggregate-fail
+    (λ c κs. search needs)  -- fail-requires
+    (λ c e. absurd (false≢true e))  -- returns
+    (λ c κs. search needs)  -- end-input-requires
     returns-2
-    slice-aggregate-count
-    count-requires
-    array-share-prefix-block
-    slice-aggregate-feed-block
-    feed-block-requires
+    (λ c. search needs)  -- slice-aggregate-count
+    (λ c κs. search needs)  -- count-requires
+    (λ c. search needs)  -- array-share-prefix-block
+    (λ c. search needs)  -- slice-aggregate-feed-block
+    (λ c κs. search needs)  -- feed-block-requires
     returns-3
-    loop-less
+    (λ c. search needs)  -- loop-less
     loop-again
-    returns-4)
+    (λ c e. absurd (false≢true e)))  -- returns-4
