@@ -1,4 +1,4 @@
-# What rt builds, for the scripts beside this file. They run it by `.` from the root of the repository.
+# What rt builds, for the scripts that run this file by `.` from the root of the repository.
 #
 #     BRECCIANEST_LIB_DIR   folder of libbreccianest.a (target/staticlib)
 #     BILL, NOTICE          the programs (target/bin/bill, target/bin/notice)

@@ -28,8 +28,10 @@ extern "C" {
  * output is in the first bytes of `output` and the others are as they were. If
  * it is greater, nothing was written: call again with a buffer of that size.
  *
- * Neither pointer may be null, even where the length is 0, and the buffers may
- * not overlap.
+ * Each pointer and length are those of a buffer; a pointer may be null where
+ * its length is 0. The buffers should not overlap, and nothing should write to
+ * the input during the call: if they do, the bytes in `output` and the size
+ * returned are those of no input. Even then no byte outside `output` is written.
  */
 
 /* A frame for each line: number, volumes, net, interest, unpaid, credit. */
