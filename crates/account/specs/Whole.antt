@@ -37,7 +37,7 @@ sameItem one other =
     eqb (one .obligation) (other .obligation) &&
     eqb (one .due) (other .due)
 
--- A new account is as made: it equals `newAccount`, field for field, and place for place in its arrays.
+-- The parts of a new account, field for field, and place for place in the arrays.
 unfoldable pub madeMeter : Account → Bool
 madeMeter a =
     eqb (a .latest) (newAccount .latest) &&
@@ -57,6 +57,7 @@ madeLedger ledger =
     eqb (ledger .credit) (newAccount .ledger .credit) &&
     same sameItem (ledger .items) (newAccount .ledger .items)
 
+-- New as made: the account equals `newAccount` in all of them.
 unfoldable pub asMade : Account → Bool
 asMade a = madeMeter a && madeEstimates (a .estimates) && madeLedger (a .ledger)
 
