@@ -5,7 +5,7 @@ use Rattle.text.proofs.answer_line.Statement.{statement}
 use Rattle.text.proofs.answer_line.Tie as tie
 
 returns : tie.Need-returns
-returns c = c .answer .ensures ∙ sym (ap (parsedOutcome (c .before .before .before .before .args .account)) (c .before .before .line .given .1))
+returns c = c .answer-call .ensures ∙ sym (ap (parsedOutcome (c .before .before .before .before .args .account)) (c .before .before .line .given .1))
 
 returns-2 : tie.Need-returns-2
 returns-2 c = c .decline .ensures ∙ sym (ap (parsedOutcome (c .before .before .before .args .account)) (c .before .enum-told .given .1))
@@ -15,7 +15,7 @@ answer-line-spec =
     tie.close
     (tie.spec
     (λ c. search needs)  -- enum-known-line
-    (λ c κs. search needs)  -- answer-requires
+    (λ c κs. search needs)  -- answer-call-requires
     (λ c. search needs)  -- enum-told
     (λ c κs. search needs)  -- decline-requires
     returns
