@@ -2,7 +2,8 @@
 //
 // A line has the number of a call, the number of a payment on the account that it handed back, and what was handed in.
 // The call is a payment of 1 yen on day 100 where nothing else is named.
-ghost use Prim.Native.Nat.{_<_};
+mod new_accounts;
+
 use account::Account;
 use account::Outcome;
 use account::Status;
@@ -63,7 +64,7 @@ fn line(outcome: Outcome, name: &[u8]) {
     text(b"\n");
 }
 
-fn show(account: Account, name: &[u8]) {
+pub fn show(account: Account, name: &[u8]) {
     line(account.pay(100, 1), name);
 }
 
@@ -398,239 +399,6 @@ fn balances() {
     show(with_credit(0, 1_000_000_000), b"credit 1000000000");
 }
 
-fn new_meters() {
-    let account = Account::new();
-    show(
-        Account {
-            latest: 1,
-            ..account
-        },
-        b"new, latest day 1",
-    );
-    show(
-        Account {
-            digits: 4,
-            ..account
-        },
-        b"new, 4 digits",
-    );
-    show(Account { dial: 1, ..account }, b"new, dial 1");
-    show(Account { pool: 1, ..account }, b"new, pool 1");
-    show(
-        Account {
-            previous: 1,
-            ..account
-        },
-        b"new, previous volume 1",
-    );
-}
-
-fn new_with_count() -> Account {
-    let account = Account::new();
-    let mut estimates = account.estimates;
-    estimates.count = 1;
-    Account {
-        estimates: estimates,
-        ..account
-    }
-}
-
-fn new_with_ledger(count: usize, held: u64, credit: u64) -> Account {
-    let account = Account::new();
-    let mut ledger = account.ledger;
-    ledger.count = count;
-    ledger.held = held;
-    ledger.credit = credit;
-    Account {
-        ledger: ledger,
-        ..account
-    }
-}
-
-fn new_lists() {
-    show(new_with_count(), b"new, an estimate counted");
-    show(new_with_ledger(1, 0, 0), b"new, an item counted");
-    show(new_with_ledger(0, 1, 0), b"new, 1 held");
-    show(new_with_ledger(0, 0, 1), b"new, credit 1");
-}
-
-// What a place that holds nothing holds.
-const NO_PERIOD: Estimate = Estimate {
-    absent: false,
-    days: 0,
-    fuel: Fuel { lng: 0, propane: 0 },
-    volume: 0,
-    charged: 0,
-};
-
-const NO_ITEM: Item = Item {
-    amount: 0,
-    unpaid: 0,
-    obligation: 0,
-    due: 0,
-    kind: Kind::Interest,
-};
-
-// A new account with something in a place of an array that counts nothing.
-fn new_with_period(place: usize, period: Estimate) -> Account
-    requires { ⌜ place < 6 ⌝ }
-{
-    let account = Account::new();
-    let mut estimates = account.estimates;
-    estimates.periods[place] = period;
-    Account {
-        estimates: estimates,
-        ..account
-    }
-}
-
-fn new_with_item(place: usize, item: Item) -> Account
-    requires { ⌜ place < 72 ⌝ }
-{
-    let account = Account::new();
-    let mut ledger = account.ledger;
-    ledger.items[place] = item;
-    Account {
-        ledger: ledger,
-        ..account
-    }
-}
-
-fn new_blank_places() {
-    show(
-        new_with_period(0, NO_PERIOD),
-        b"new, the first place of the estimates blank",
-    );
-    show(
-        new_with_period(5, NO_PERIOD),
-        b"new, the last place of the estimates blank",
-    );
-    show(
-        new_with_item(0, NO_ITEM),
-        b"new, the first place of the items blank",
-    );
-    show(
-        new_with_item(71, NO_ITEM),
-        b"new, the last place of the items blank",
-    );
-}
-
-fn new_periods() {
-    show(
-        new_with_period(
-            0,
-            Estimate {
-                absent: true,
-                ..NO_PERIOD
-            },
-        ),
-        b"new, absence in the first place of the estimates",
-    );
-    show(
-        new_with_period(
-            1,
-            Estimate {
-                days: 1,
-                ..NO_PERIOD
-            },
-        ),
-        b"new, 1 day in the second place of the estimates",
-    );
-    show(
-        new_with_period(
-            2,
-            Estimate {
-                fuel: Fuel {
-                    lng: 10,
-                    propane: 0,
-                },
-                ..NO_PERIOD
-            },
-        ),
-        b"new, LNG 10 in the third place of the estimates",
-    );
-    show(
-        new_with_period(
-            3,
-            Estimate {
-                fuel: Fuel {
-                    lng: 0,
-                    propane: 10,
-                },
-                ..NO_PERIOD
-            },
-        ),
-        b"new, propane 10 in the fourth place of the estimates",
-    );
-    show(
-        new_with_period(
-            4,
-            Estimate {
-                volume: 1,
-                ..NO_PERIOD
-            },
-        ),
-        b"new, 1 m3 in the fifth place of the estimates",
-    );
-    show(
-        new_with_period(
-            5,
-            Estimate {
-                charged: 1,
-                ..NO_PERIOD
-            },
-        ),
-        b"new, 1 yen charged in the last place of the estimates",
-    );
-}
-
-fn new_items() {
-    show(
-        new_with_item(
-            0,
-            Item {
-                kind: Kind::Price,
-                ..NO_ITEM
-            },
-        ),
-        b"new, a price in the first place of the items",
-    );
-    show(
-        new_with_item(
-            1,
-            Item {
-                amount: 1,
-                ..NO_ITEM
-            },
-        ),
-        b"new, amount 1 in the second place of the items",
-    );
-    show(
-        new_with_item(
-            35,
-            Item {
-                unpaid: 1,
-                ..NO_ITEM
-            },
-        ),
-        b"new, 1 unpaid in the 36th place of the items",
-    );
-    show(
-        new_with_item(
-            70,
-            Item {
-                obligation: 1,
-                ..NO_ITEM
-            },
-        ),
-        b"new, obligation day 1 in the 71st place of the items",
-    );
-    show(
-        new_with_item(71, Item { due: 1, ..NO_ITEM }),
-        b"new, due day 1 in the last place of the items",
-    );
-}
-
 fn supplied_calls(account: Account) {
     line(account.read_meter(100, 140, FUEL), b"02");
     line(account.miss_reading(100, FUEL), b"03");
@@ -671,10 +439,6 @@ fn main() {
     item_days();
     item_counts();
     balances();
-    new_meters();
-    new_lists();
-    new_blank_places();
-    new_periods();
-    new_items();
+    new_accounts::spoil();
     calls();
 }
