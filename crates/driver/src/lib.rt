@@ -2,10 +2,7 @@
 ghost use mathlib.Core.Path.{_≡_};
 ghost use mathlib.Core.Bool.{true};
 ghost use mathlib.Core.List.{_++_};
-ghost use Rattle.account.specs.Calls.{newAccount};
-ghost use Rattle.text.specs.Lines.{linesOf};
-ghost use Rattle.text.specs.Output.{accountAfter};
-ghost use Rattle.text.specs.Pieces.{Follows, Behind, LeftByLines};
+ghost use Rattle.text.specs.Pieces.{Follows, AtEnd, Behind, Finished};
 ghost use Rattle.text.specs.Reached.{Reached};
 use libc::STDIN_FILENO;
 use libc::STDOUT_FILENO;
@@ -56,7 +53,7 @@ fn feed_block(state: State, block: &[u8], is_printing: bool) -> Run
 // The end of the input.
 fn end_input(state: State, is_printing: bool) -> Run
     requires { ⌜ Behind state ⌝ }
-    ensures { λ r. ⌜ ((b : Behind state) → r .state .account ≡ accountAfter newAccount (linesOf (b .seen))) ⌝ }
+    ensures { λ r. ⌜ ((b : Behind state) → AtEnd (b .seen) (r .state)) ⌝ }
 {
     let mut out = [0u8; 117];
     let fed = text::finish(state, &mut out);
@@ -66,10 +63,10 @@ fn end_input(state: State, is_printing: bool) -> Run
     Run { state, sound }
 }
 
-// Feeds all of standard input. Where nothing failed, the account is the one that all lines read leave.
+// Feeds all of standard input. Where nothing failed, the account is the one that all lines read leave, and no line is left half read.
 // What a failed read leaves half read is not taken for a line.
 pub fn feed_input(is_printing: bool) -> Run
-    ensures { λ r. ⌜ (r .sound ≡ true → LeftByLines (r .state .account)) ⌝ }
+    ensures { λ r. ⌜ (r .sound ≡ true → Finished (r .state)) ⌝ }
 {
     let mut state = State::new();
     let mut block = io::large_buffer();

@@ -20,7 +20,7 @@ use Rattle.text.specs.declared.State.{State}
 use Rattle.text.specs.Lines.{linesFrom, linesOf}
 use Rattle.text.specs.Output.{parsedOutcome, lineOutcome, answersOf, accountAfter, bill}
 use Rattle.text.specs.Feeding.{fresh, lineOf, kept, lineEnds, ended, Feeding, nothing, behind, feeding, finishing}
-use Rattle.text.specs.Pieces.{linesIn, partAfter, made, Holds, Stands, Follows, Piece, stateAfter, takenOf, writtenOf}
+use Rattle.text.specs.Pieces.{linesIn, partAfter, made, Holds, Stands, Follows, Piece, stateAfter, takenOf, writtenOf, AtEnd}
 use Rattle.text.proofs.Feeding.{feed-ends, finish-none, finish-line}
 use Rattle.text.proofs.Lines.{lines-split, lines-on, part-on, answers-behind, account-behind}
 
@@ -139,7 +139,7 @@ last-line (c ∷ cs) n = refl
 -- The end of the input: all that was written is what `bill` writes for all that was taken.
 pub record Ended (seen out : List ℕ) (f : Feeding) : Type 0 where
   pub out-is : out ++ f .output ≡ bill seen
-  pub account-is : f .state .account ≡ accountAfter newAccount (linesOf seen)
+  pub at-end : AtEnd seen (f .state)
 
 ended-none : (seen out : List ℕ) (s : State) → Stands seen out s → s .length ≡ 0 → Ended seen out (nothing s)
 unfolding bill
@@ -148,7 +148,7 @@ ended-none seen out s w z =
     let lines : linesOf seen ≡ linesIn [] seen = lines-all seen ∙ ap (λ ls. linesIn [] seen ++ ls) (last-none (partAfter [] seen) (omega arith)) ∙ append-nil (linesIn [] seen) in
     record {
       out-is = append-nil out ∙ w .out-is ∙ ap (λ ls. joined answerLine (answersOf newAccount ls)) (sym lines);
-      account-is = w .account-is ∙ ap (accountAfter newAccount) (sym lines);
+      at-end = record { account-is = w .account-is ∙ ap (accountAfter newAccount) (sym lines); none-begun = z };
     }
 
 ended-line : (seen out : List ℕ) (s : State) (rest : Feeding) → Stands seen out s → (s .length ≡ 0 → ⊥) → rest ≡ nothing (ended s) → Ended seen out (behind (answerLine (lineEnds s .answer)) rest)
@@ -162,7 +162,11 @@ ended-line seen out s rest w n e =
     record {
       out-is =
           ap (λ (f : Feeding). out ++ (answerLine (lineEnds s .answer) ++ f .output)) e ∙ ap (λ o. o ++ (answerLine (lineEnds s .answer) ++ [])) (w .out-is) ∙ ap (λ (o : Outcome). joined answerLine (answersOf newAccount before) ++ (answerLine (o .answer) ++ [])) ends ∙ sym (joined-behind answerLine (answersOf newAccount before) (answersOf (accountAfter newAccount before) (part ∷ []))) ∙ ap (joined answerLine) (sym (answers-behind newAccount before (part ∷ []))) ∙ ap (λ ls. joined answerLine (answersOf newAccount ls)) (sym lines);
-      account-is = ap (λ (f : Feeding). f .state .account) e ∙ ap (λ (o : Outcome). o .account) ends ∙ sym (account-behind newAccount before (part ∷ [])) ∙ ap (accountAfter newAccount) (sym lines);
+      at-end =
+          record {
+            account-is = ap (λ (f : Feeding). f .state .account) e ∙ ap (λ (o : Outcome). o .account) ends ∙ sym (account-behind newAccount before (part ∷ [])) ∙ ap (accountAfter newAccount) (sym lines);
+            none-begun = ap (λ (f : Feeding). f .state .length) e;
+          };
     }
 
 fed-none : (room : ℕ) (s : State) → feeding room s [] ≡ nothing s

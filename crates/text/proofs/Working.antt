@@ -103,7 +103,7 @@ module _ {input text : List ℕ} {writing : Bool} {out : List ℕ} {s : State} {
       let ended = stands-end (take taken input) (made (take taken input)) s room r (w .stands) in
       let done : made (take taken input) ++ g .output ≡ bill input = ended .out-is ∙ ap bill all in
       record {
-        account-is = ended .account-is ∙ ap (λ xs. accountAfter newAccount (linesOf xs)) all;
+        account-is = ended .at-end .account-is ∙ ap (λ xs. accountAfter newAccount (linesOf xs)) all;
         size-is = rw (← done, length-append (made (take taken input)) (g .output)) (ap (λ n. n + length (g .output)) (w .size-is));
         out-is = rw (← done) (written-more writing text out out′ (made (take taken input)) (g .output) size (sym (w .size-is)) (w .out-is) e);
       }

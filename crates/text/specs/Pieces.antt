@@ -7,7 +7,6 @@ use lib.Dec.{eqb}
 use lib.ListN.{length, take}
 use Rattle.lists.specs.Sum.{total}
 use Rattle.lists.specs.Joined.{joined}
-use Rattle.account.specs.declared.Account.{Account}
 use Rattle.account.specs.Calls.{newAccount}
 use Rattle.audit.specs.Book.{Book, prices}
 use Rattle.audit.specs.Claim.{start, run, finalVolume, unpaidOn}
@@ -46,14 +45,19 @@ pub record Stands (seen out : List ℕ) (s : State) : Type 0 where
 abbrev pub Follows : List ℕ → State → Type 0
 Follows seen s = Stands seen (made seen) s
 
--- A state that some input leads to, and an account that all lines of some input leave. What was read is known only to the run itself.
+-- The state at the end of an input: the account is the one that all its lines leave, and no line has begun.
+pub record AtEnd (input : List ℕ) (s : State) : Type 0 where
+  pub account-is : s .account ≡ accountAfter newAccount (linesOf input)
+  pub none-begun : s .length ≡ 0
+
+-- Of an input that was read no contract can name the bytes: a state that some input leads to, and one at the end of some input.
 pub record Behind (s : State) : Type 0 where
   pub seen : List ℕ
   pub follows : Follows seen s
 
-pub record LeftByLines (a : Account) : Type 0 where
+pub record Finished (s : State) : Type 0 where
   pub input : List ℕ
-  pub account-is : a ≡ accountAfter newAccount (linesOf input)
+  pub at-end : AtEnd input s
 
 -- A piece, and the room lent for what it makes.
 pub record Piece : Type 0 where

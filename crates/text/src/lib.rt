@@ -66,7 +66,7 @@ fn answer_line(account: Account, line: Parsed) -> Outcome
     }
 }
 
-// A call's outcome, number 41 not asked. A function by itself: joined to the one above, it makes the compiler copy more for every line.
+// A call's outcome, number 41 not asked. It stands by itself for what the compiler makes of it: docs/BENCHMARKS.md has the figures.
 fn answer_call(account: Account, call: Call) -> Outcome
     requires { ⌜ whole account ≡ true ⌝ }
     ensures { λ r. ⌜ r ≡ outcome account call ⌝ }

@@ -1,4 +1,4 @@
-use mathlib.Core.Path.{_≡_, sym, ap, _∙_}
+use mathlib.Core.Path.{_≡_, sym, ap}
 use native.Mathlib.Omega.{arith}
 use lib.ListN.{length}
 use lib.Seq.{length-take-le}
@@ -32,7 +32,8 @@ returns : tie.Need-returns
 returns c = λ b.
     let start : tie.Start = search in
     let ended : tie.After-finish = search in
-    ap (λ (f : Fed). f .state .account) (ended .finish .ensures .0) ∙ stands-end (b .seen) (made (b .seen)) (start .args .state) 117 (omega arith) (b .follows) .account-is
+    let state-is = ap (λ (f : Fed). f .state) (ended .finish .ensures .0) in
+    rw state-is (stands-end (b .seen) (made (b .seen)) (start .args .state) 117 (omega arith) (b .follows) .at-end)
 
 pub end-input-spec : {M : Type 1} → statement M
 end-input-spec =

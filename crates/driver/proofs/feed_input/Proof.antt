@@ -1,5 +1,5 @@
--- Invariant: the state stands behind what was read so far. A block more is what was read with that block behind it, and at the end the
--- account is the one that the lines of all that was read leave.
+-- Invariant: the state stands behind what was read so far. A block more is what was read with that block behind it, and `end_input`
+-- leaves the state at the end of all that was read.
 use mathlib.Core.Path.{_≡_, sym, _∙_}
 use mathlib.Core.Bool.{false≢true}
 use mathlib.Core.List.{[]}
@@ -30,7 +30,7 @@ block-long c = search needs
 returns-2 : Walk tie.Need-returns-2
 returns-2 c = λ _.
     let l : Walk tie.At-loop = search in
-    record { input = l .loop .inv .1 .seen; account-is = c .end-input .ensures (l .loop .inv .1) }
+    record { input = l .loop .inv .1 .seen; at-end = c .end-input .ensures (l .loop .inv .1) }
 
 returns-3 : Walk tie.Need-returns-3
 returns-3 c = λ e. absurd (false≢true (sym (not-true _ (c .if3 .taken)) ∙ e))
