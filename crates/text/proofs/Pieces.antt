@@ -196,6 +196,10 @@ follows-on seen s room bytes w =
     let next = stands-on seen (made seen) s room bytes w in
     rw (← made-is (seen ++ take (f .taken) bytes) (made seen ++ f .output) (f .state) next) next
 
+-- And where there is room for a line, the end of the input leaves it at its end.
+pub follows-end : (seen : List ℕ) (s : State) (room : ℕ) → longestAnswer ≤ room → Follows seen s → AtEnd seen (finishing room s .state)
+follows-end seen s room r w = stands-end seen (made seen) s room r w .at-end
+
 -- Pieces of any sizes, cut anywhere, with any room: what they make, with what the end makes behind it, is what `bill` writes for all that was taken.
 stands-all : (pieces : List Piece) (seen out : List ℕ) (s : State) → Stands seen out s → Stands (seen ++ takenOf s pieces) (out ++ writtenOf s pieces) (stateAfter s pieces)
 stands-all [] seen out s w = rw (append-nil seen, append-nil out) w

@@ -1,47 +1,39 @@
-use mathlib.Core.Path.{_≡_, sym, ap}
+use mathlib.Core.Path.{_≡_, sym, ap, subst}
+use Prim.Native.Nat.{_≤_}
 use native.Mathlib.Omega.{arith}
 use lib.ListN.{length}
 use lib.Seq.{length-take-le}
-use Rattle.text.specs.declared.Fed.{Fed}
-use Rattle.text.specs.Pieces.{made}
-use Rattle.text.proofs.Pieces.{stands-end}
-use Rattle.text.proofs.Reached.{behind-reached}
 use borrow.Author.Needs.{needs}
+use Rattle.text.specs.declared.Fed.{Fed}
+use Rattle.text.specs.Pieces.{AtEnd}
+use Rattle.text.proofs.Pieces.{follows-end}
+use Rattle.text.proofs.Reached.{behind-reached}
 use Rattle.driver.proofs.end_input.Statement.{statement}
 use Rattle.driver.proofs.end_input.Tie as tie
 
-slice-aggregate-finish : tie.Need-slice-aggregate-finish
-slice-aggregate-finish c = search needs
-
-finish-requires : tie.Need-finish-requires
-finish-requires c κs =
-    let start : tie.Start = search in
-    behind-reached (start .pre)
-
-array-share-prefix-out : tie.Need-array-share-prefix-out
-array-share-prefix-out c = search needs
+-- what was written is within the room, which is as long as it was
+within : (c : tie.After-finish) → c .finish .result .written ≤ length (c .finish .last .1 .0)
+within c = omega (arith, c .finish .kept .1 .0, c .finish .ensures .1 .1)
 
 slice-aggregate-print : tie.Need-slice-aggregate-print
-slice-aggregate-print c = let long : length (c .before .before .finish .last .1 .0) ≡ 117 = search needs in
-    sym (length-take-le (c .before .before .finish .result .written) (c .before .before .finish .last .1 .0) (omega (arith, c .before .before .finish .ensures .1 .1)))
-
-print-requires : tie.Need-print-requires
-print-requires c κs = search needs
+slice-aggregate-print c =
+    let ended : tie.After-finish = search in
+    sym (length-take-le (ended .finish .result .written) (ended .finish .last .1 .0) (within ended))
 
 returns : tie.Need-returns
 returns c = λ b.
     let start : tie.Start = search in
     let ended : tie.After-finish = search in
     let state-is = ap (λ (f : Fed). f .state) (ended .finish .ensures .0) in
-    rw state-is (stands-end (b .seen) (made (b .seen)) (start .args .state) 117 (omega arith) (b .follows) .at-end)
+    subst (AtEnd (b .seen)) (sym state-is) (follows-end (b .seen) (start .args .state) _ (omega arith) (b .follows))
 
 pub end-input-spec : {M : Type 1} → statement M
 end-input-spec =
     tie.close
     (tie.spec
-    slice-aggregate-finish
-    finish-requires
-    array-share-prefix-out
+    (λ c. search needs)  -- slice-aggregate-finish
+    (λ c κs. let start : tie.Start = search in behind-reached (start .pre))  -- finish-requires
+    (λ c. let ended : tie.After-finish = search in within ended)  -- array-share-prefix-out
     slice-aggregate-print
-    print-requires
+    (λ c κs. search needs)  -- print-requires
     returns)
