@@ -19,6 +19,12 @@ module _ {A : Type 0} (P : A → Type 0) where
   every-at (x ∷ xs) zero d h e = e .0
   every-at (x ∷ xs) (suc i) d h e = every-at xs i d (le-of-suc-le-suc h) (e .1)
 
+  pub every-in-front : (xs : List A) (n i : ℕ) (d : A) → i < n → i < length xs → Every P (take n xs) → P (getD xs i d)
+  every-in-front [] n i d l h e = absurd (not-suc-le-zero h)
+  every-in-front (x ∷ xs) zero i d l h e = absurd (not-suc-le-zero l)
+  every-in-front (x ∷ xs) (suc n) zero d l h e = e .0
+  every-in-front (x ∷ xs) (suc n) (suc i) d l h e = every-in-front xs n i d (le-of-suc-le-suc l) (le-of-suc-le-suc h) (e .1)
+
 -- what holds of each element gives another fact of each
 pub every-map : {A : Type 0} (P Q : A → Type 0) → ((x : A) → P x → Q x) → (xs : List A) → Every P xs → Every Q xs
 every-map P Q f [] e = tt

@@ -7,7 +7,7 @@ use native.Mathlib.Nat.{le-of-lt, sub-zero, zero-sub, suc-sub-suc}
 use native.Mathlib.Omega.{arith}
 use lib.Dec.{leb}
 use lib.ListN.{length, length-append, length-map, replicate, length-replicate, getD, set, take, drop, List·getD-append}
-use lib.Seq.{take-append-seam, take-append-le, take-all, take-nil, take-suc, length-take-le, set-at, set-out, append-snoc}
+use lib.Seq.{drop-cons, take-append-seam, take-append-le, take-all, take-nil, take-suc, length-take-le, set-at, set-out, append-snoc}
 use borrow.Author.Tests.{leb-true, leb-false}
 use Rattle.lists.specs.Pad.{pad}
 
@@ -85,3 +85,10 @@ take-past n m xs l h = take-all n xs (omega arith) ∙ sym (take-all m xs (omega
 
 pub getD-pad : {A : Type 0} (blank : A) (size : ℕ) (xs : List A) (i : ℕ) → i < length xs → getD (pad size blank xs) i blank ≡ getD xs i blank
 getD-pad blank size xs i h = List·getD-append xs (replicate (size - length xs) blank) blank i h
+
+-- The front of one list put over the front of another, one place after another.
+pub fill-next : {A : Type 0} (front rest : List A) (d : A) (i : ℕ) → i < length front → length front ≤ length rest
+    → set (take i front ++ drop i rest) i (getD front i d) ≡ take (suc i) front ++ drop (suc i) rest
+fill-next front rest d i h long =
+    rw (drop-cons rest i d (omega arith), take-suc front i d h, append-snoc (take i front) (getD front i d) (drop (suc i) rest))
+    (set-at (take i front) (getD rest i d) (drop (suc i) rest) (getD front i d) i (length-take-le i front (omega arith)))

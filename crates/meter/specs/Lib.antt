@@ -1,3 +1,4 @@
 -- Dials and volumes: articles 13 and 14 of the supply terms.
 pub mod Dial
 pub mod Sharing
+pub mod Metering

@@ -7,6 +7,14 @@ ghost use Rattle.meter.specs.Dial.{span, advance, withinHalf, Digits, On
 ghost use Rattle.meter.specs.Sharing.{estimated, sharers, sharing, shareTaken, sharedPool, finalVolumes, standing, volumesOf, AtMostSix};
 use tariff::Fuel;
 
+// A meter under supply: its digits and what its dial showed last; the advance of all meters since the last real closing reading; the volume of the latest period.
+pub struct Meter {
+    pub digits: u8,
+    pub dial: u32,
+    pub pool: u32,
+    pub previous: u32,
+}
+
 // A period billed on an estimate, until a reading makes its volume final. `absent` marks a period of known absence, 14(6).
 pub struct Estimate {
     pub absent: bool,

@@ -1,0 +1,6 @@
+-- Laws of what calls plan.
+pub mod Tests
+pub mod Passed
+pub mod Nets
+pub mod Ready
+pub mod Planning

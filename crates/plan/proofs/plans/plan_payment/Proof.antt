@@ -1,0 +1,32 @@
+use mathlib.Core.Path.{ap, _∙_}
+use mathlib.Core.Bool.{Bool, false}
+use borrow.Author.Needs.{needs}
+use Rattle.plan.specs.declared.Plan.{Plan}
+use Rattle.plan.specs.Plans.{askingPlan}
+use Rattle.plan.proofs.Planning.{plan-declined, plan-passed}
+use Rattle.plan.proofs.plans.plan_payment.Statement.{statement}
+use Rattle.plan.proofs.plans.plan_payment.Tie as tie
+
+returns : tie.Need-returns
+returns c =
+    let d : tie.After-payment-refusal = search in
+    c .quiet .ensures ∙ plan-declined (d .payment-refusal .ensures) (c .before .if1 .taken) _ _
+
+returns-2 : tie.Need-returns-2
+returns-2 c =
+    let d : tie.After-payment-refusal = search in
+    let one : tie.Else1 = search in
+    let s = d .before .args in
+    let asks : Bool → Plan = λ posts. askingPlan (s .head) (s .head .status) (record { day = s .day; money = s .yen; closes = false; charge = 0; posts = posts }) in
+    c .asking .ensures ∙ ap asks (c .before .is-cancelled .ensures) ∙ plan-passed (d .payment-refusal .ensures) (one .if1 .left) _ _
+
+pub plan-payment-spec : {M : Type 1} → statement M
+plan-payment-spec =
+    tie.close
+    (tie.spec
+    (λ c κs. search needs)  -- payment-refusal-requires
+    (λ c κs. search needs)  -- quiet-requires
+    returns
+    (λ c κs. search needs)  -- is-cancelled-requires
+    (λ c κs. search needs)  -- asking-requires
+    returns-2)

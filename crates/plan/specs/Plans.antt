@@ -1,0 +1,206 @@
+-- What a call plans: the head after it, what becomes of the estimates, what is asked of the ledger, and the numbers of its answer.
+use mathlib.Core.Path.{_≡_}
+use mathlib.Core.Bool.{Bool, true, false, cond}
+use mathlib.Core.List.{List, [], _∷_, _++_}
+use Prim.Native.Nat.{ℕ, _+_, _≤_, _<_}
+use lib.Dec.{eqb}
+use lib.IntN.{ℤ, pos}
+use lib.ListN.{length, drop}
+use Rattle.tariff.specs.declared.Fuel.{Fuel}
+use Rattle.tariff.specs.Price.{priceOf}
+use Rattle.meter.specs.declared.Meter.{Meter}
+use Rattle.meter.specs.declared.Estimate.{Estimate}
+use Rattle.meter.specs.Dial.{span, Digits}
+use Rattle.meter.specs.Metering.{poolTo, setOn, exchangedFor, readAt, missedAt}
+use Rattle.meter.specs.Sharing.{finalVolumes}
+use Rattle.ledger.specs.declared.Entry.{Entry}
+use Rattle.ledger.specs.Limits.{lastCallDay}
+use Rattle.ledger.specs.Posting.{chargeOf, creditOf}
+use Rattle.plan.specs.declared.Status.{Status}
+use Rattle.plan.specs.declared.Status.the-variants.{Supplied, Stopped, Cancelled}
+use Rattle.plan.specs.declared.Head.{Head}
+use Rattle.plan.specs.declared.Call.{Call}
+use Rattle.plan.specs.declared.Call.the-variants.{Opening, Reading, Missed, Absent, Exchange, Disconnection, Reconnection, Cancellation, Payment, StoppedCancellation}
+use Rattle.plan.specs.declared.Change.{Change}
+use Rattle.plan.specs.declared.Change.the-variants.{Kept, Cleared, Added}
+use Rattle.plan.specs.declared.Then.{Then}
+use Rattle.plan.specs.declared.Then.the-variants.{Goes, Stops, Ends}
+use Rattle.plan.specs.declared.Figures.{Figures}
+use Rattle.plan.specs.declared.Plan.{Plan}
+use Rattle.plan.specs.Limits.{mostVolume, mostMisses, mostDays, mostCharge, fuelAllowed}
+use Rattle.plan.specs.Statuses.{isSupplied, isCancelled, startOf, stopOf}
+use Rattle.plan.specs.Closing.{daysOf, dayAfter, resumedStart, ofThisPeriod, netOf}
+use Rattle.plan.specs.Refusals.{firstRefusal}
+
+-- What is known of the head of every whole account. A meter is known once there is supply.
+pub record MeterBounds (m : Meter) : Type 0 where
+  pub digits-within : Digits (m .digits)
+  pub dial-within : m .dial < span (m .digits)
+  pub pool-most : m .pool ≤ mostVolume
+
+pub record SuppliedBounds (h : Head) : Type 0 where
+  pub start-most : startOf (h .status) ≤ h .latest + 1
+  pub meter : MeterBounds (h .meter)
+
+pub record HeadBounds (h : Head) : Type 0 where
+  pub previous-most : h .meter .previous ≤ mostVolume
+  pub supplied : isSupplied (h .status) ≡ true → SuppliedBounds h
+
+-- and of its estimates.
+pub record EstimateBounds (estimate : Estimate) : Type 0 where
+  pub days-least : 1 ≤ estimate .days
+  pub days-most : estimate .days ≤ mostDays
+  pub fuel-allowed : fuelAllowed (estimate .fuel) ≡ true
+  pub volume-most : estimate .volume ≤ mostVolume
+  pub charged-most : estimate .charged ≤ mostCharge
+
+-- What follows a reading: the next period, a stop, or the end.
+abbrev pub ends : Then → Bool
+ends Goes = false
+ends Stops = false
+ends Ends = true
+
+abbrev pub statusAfter : Then → ℕ → Status
+statusAfter Goes day = Supplied (dayAfter day)
+statusAfter Stops day = Stopped day
+statusAfter Ends day = Cancelled
+
+abbrev pub noEntry : Entry
+noEntry = record { day = 0; money = 0; closes = false; charge = 0; posts = false }
+
+-- A plan that asks nothing of the ledger.
+abbrev pub quietPlan : ℕ → Head → Plan
+quietPlan number h =
+    record { number = number; head = h; change = Kept; asks = false; entry = noEntry; estimated = 0; count = 0; net = pos 0 }
+
+-- A declined call plans its number, and nothing else.
+abbrev pub plannedAs : ℕ → Plan → Head → Plan
+plannedAs number passed h = cond (eqb number 0) passed (quietPlan number h)
+
+abbrev pub volumesAs : ℕ → List ℕ → List ℕ
+volumesAs number volumes = cond (eqb number 0) volumes []
+
+abbrev pub headOn : Head → Status → ℕ → Meter → Head
+headOn h status day meter = record { status = status; latest = day; meter = meter; standing = h .standing }
+
+-- 01 and 07.
+abbrev pub begunPlan : Head → ℕ → ℕ → ℕ → ℕ → Plan
+begunPlan h day reading digits start = quietPlan 0 (headOn h (Supplied start) day (setOn (h .meter) digits reading))
+
+-- 05.
+abbrev pub exchangedPlan : Head → ℕ → ℕ → ℕ → ℕ → Plan
+exchangedPlan h day old new digits = quietPlan 0 (headOn h (h .status) day (exchangedFor (h .meter) old new digits))
+
+-- 09 and 0a: what they ask of the ledger, and no more.
+abbrev pub askingPlan : Head → Status → Entry → Plan
+askingPlan h status entry =
+    record { number = 0; head = headOn h status (entry .day) (h .meter); change = Kept; asks = true; entry = entry; estimated = 0; count = 0; net = pos 0 }
+
+abbrev pub paymentPlan : Head → ℕ → ℕ → Plan
+paymentPlan h day yen =
+    askingPlan h (h .status) (record { day = day; money = yen; closes = false; charge = 0; posts = isCancelled (h .status) })
+
+abbrev pub stoppedPlan : Head → ℕ → Plan
+stoppedPlan h day = askingPlan h Cancelled (record { day = day; money = 0; closes = true; charge = 0; posts = false })
+
+-- 03 and 04.
+module _ (h : Head) (day : ℕ) (fuel : Fuel) (absent : Bool) (volume : ℕ) where
+  abbrev pub missCharge : ℕ
+  missCharge = priceOf (daysOf (startOf (h .status)) day) fuel volume
+
+  abbrev pub missPlan : Plan
+  missPlan =
+      record {
+        number = 0;
+        head =
+            record { status = Supplied (dayAfter day); latest = day; meter = missedAt (h .meter) volume; standing = h .standing + 1 };
+        change =
+            Added
+            (record { absent = absent; days = daysOf (startOf (h .status)) day; fuel = fuel; volume = volume; charged = missCharge });
+        asks = true;
+        entry = record { day = day; money = 0; closes = true; charge = missCharge; posts = false };
+        estimated = volume;
+        count = 0;
+        net = pos missCharge;
+      }
+
+-- 02, 06 and 08, over the estimates that stand.
+abbrev pub finals : Head → List Estimate → ℕ → List ℕ
+finals h estimates reading = finalVolumes estimates (poolTo (h .meter) reading)
+
+module _ (h : Head) (estimates : List Estimate) (day reading : ℕ) (fuel : Fuel) where
+  abbrev pub readPrice : ℕ
+  readPrice = priceOf (daysOf (startOf (h .status)) day) fuel (ofThisPeriod (finals h estimates reading))
+
+  abbrev pub readNet : ℤ
+  readNet = netOf estimates (poolTo (h .meter) reading) (finals h estimates reading) readPrice
+
+  abbrev pub readFigures : Figures
+  readFigures =
+      record { count = length (finals h estimates reading); volume = ofThisPeriod (finals h estimates reading); net = readNet }
+
+-- What a reading that worked out these figures plans.
+abbrev pub figuredPlan : Head → ℕ → ℕ → Then → Figures → Plan
+figuredPlan h day reading next f =
+    record {
+      number = 0;
+      head = record { status = statusAfter next day; latest = day; meter = readAt (h .meter) reading (f .volume); standing = 0 };
+      change = Cleared;
+      asks = true;
+      entry = record { day = day; money = creditOf (f .net); closes = true; charge = chargeOf (f .net); posts = ends next };
+      estimated = 0;
+      count = f .count;
+      net = f .net;
+    }
+
+abbrev pub readPlan : Head → List Estimate → ℕ → ℕ → Fuel → Then → Plan
+readPlan h estimates day reading fuel next = figuredPlan h day reading next (readFigures h estimates day reading fuel)
+
+-- The plan of each call that 1 to 11 let pass, and the volumes that it makes final.
+unfoldable pub passedPlan : Head → List Estimate → Call → Plan
+passedPlan h estimates (Opening day reading digits) = begunPlan h day reading digits day
+passedPlan h estimates (Reading day reading fuel) = readPlan h estimates day reading fuel Goes
+passedPlan h estimates (Missed day fuel) = missPlan h day fuel false (h .meter .previous)
+passedPlan h estimates (Absent day fuel) = missPlan h day fuel true 0
+passedPlan h estimates (Exchange day old new digits) = exchangedPlan h day old new digits
+passedPlan h estimates (Disconnection day reading fuel) = readPlan h estimates day reading fuel Stops
+passedPlan h estimates (Reconnection day reading digits) = begunPlan h day reading digits (resumedStart (stopOf (h .status)) day)
+passedPlan h estimates (Cancellation day reading fuel) = readPlan h estimates day reading fuel Ends
+passedPlan h estimates (Payment day yen) = paymentPlan h day yen
+passedPlan h estimates (StoppedCancellation day) = stoppedPlan h day
+
+unfoldable pub passedVolumes : Head → List Estimate → Call → List ℕ
+passedVolumes h estimates (Opening day reading digits) = []
+passedVolumes h estimates (Reading day reading fuel) = finals h estimates reading
+passedVolumes h estimates (Missed day fuel) = []
+passedVolumes h estimates (Absent day fuel) = []
+passedVolumes h estimates (Exchange day old new digits) = []
+passedVolumes h estimates (Disconnection day reading fuel) = finals h estimates reading
+passedVolumes h estimates (Reconnection day reading digits) = []
+passedVolumes h estimates (Cancellation day reading fuel) = finals h estimates reading
+passedVolumes h estimates (Payment day yen) = []
+passedVolumes h estimates (StoppedCancellation day) = []
+
+-- The plan of any call, and the volumes that it shows.
+unfoldable pub planned : Head → List Estimate → Call → Plan
+planned h estimates call = plannedAs (firstRefusal h call) (passedPlan h estimates call) h
+
+unfoldable pub plannedVolumes : Head → List Estimate → Call → List ℕ
+plannedVolumes h estimates call = volumesAs (firstRefusal h call) (passedVolumes h estimates call)
+
+-- Volumes in a lent array, from its start.
+abbrev pub filledWith : List ℕ → List ℕ → List ℕ
+filledWith volumes before = volumes ++ drop (length volumes) before
+
+-- A call that reads the meter to close a period: it alone looks at the estimates.
+abbrev pub reads : Call → Bool
+reads (Opening day reading digits) = false
+reads (Reading day reading fuel) = true
+reads (Missed day fuel) = false
+reads (Absent day fuel) = false
+reads (Exchange day old new digits) = false
+reads (Disconnection day reading fuel) = true
+reads (Reconnection day reading digits) = false
+reads (Cancellation day reading fuel) = true
+reads (Payment day yen) = false
+reads (StoppedCancellation day) = false

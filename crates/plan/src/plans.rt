@@ -1,0 +1,472 @@
+// The plan of each call.
+ghost use mathlib.Core.Path.{_≡_};
+ghost use mathlib.Core.Bool.{true, false};
+ghost use mathlib.Core.List.{[]};
+ghost use Prim.Native.Nat.{_≤_};
+ghost use lib.ListN.{length};
+ghost use Rattle.lists.specs.Every.{Every};
+ghost use Rattle.meter.specs.Sharing.{standing, AtMostSix};
+ghost use Rattle.ledger.specs.Limits.{lastCallDay};
+ghost use Rattle.ledger.specs.Posting.{NetBounds};
+ghost use Rattle.plan.specs.Statuses.{isNew, isStopped, stopOf};
+ghost use Rattle.plan.specs.Closing.{resumedStart};
+ghost use Rattle.plan.specs.Limits.{mostVolume};
+ghost use Rattle.plan.specs.Refusals.{begins, dialRefusal, missRefusal, exchangeRefusal, paymentRefusal, readingRefusal};
+ghost use Rattle.plan.specs.Plans.{HeadBounds, EstimateBounds, ends, statusAfter, quietPlan, plannedAs, volumesAs, begunPlan, exchangedPlan, paymentPlan, stoppedPlan, askingPlan, missPlan, finals, figuredPlan, readPlan, planned, plannedVolumes, filledWith, reads};
+use crate::Call;
+use crate::Change;
+use crate::Figures;
+use crate::Head;
+use crate::Plan;
+use crate::Status;
+use crate::Then;
+use crate::closing::close_alone;
+use crate::closing::close_over;
+use crate::closing::days_of;
+use crate::closing::pool_to;
+use crate::closing::resumed_start;
+use crate::refusals::dial_refusal;
+use crate::refusals::exchange_refusal;
+use crate::refusals::miss_refusal;
+use crate::refusals::payment_refusal;
+use crate::refusals::reading_refusal;
+use crate::refusals::start_refusal;
+use crate::statuses::is_cancelled;
+use crate::statuses::is_new;
+use crate::statuses::is_stopped;
+use crate::statuses::start_of;
+use crate::statuses::stop_of;
+use ledger::Entry;
+use ledger::charge_of;
+use ledger::credit_of;
+use meter::Estimate;
+use meter::Estimates;
+use meter::Meter;
+use tariff::Fuel;
+use tariff::price;
+
+const NO_ENTRY: Entry = Entry {
+    day: 0,
+    money: 0,
+    closes: false,
+    charge: 0,
+    posts: false,
+};
+
+// Whether a call looks at the estimates: it reads the meter, and some stand.
+pub fn over(standing: usize, call: Call) -> bool
+    ensures { λ r. ⌜ (r ≡ true → reads call ≡ true) ⌝ }
+    ensures { λ r. ⌜ (r ≡ false → reads call ≡ true → standing ≡ 0) ⌝ }
+{
+    if standing == 0 {
+        return false;
+    }
+    reads(call)
+}
+
+fn reads(call: Call) -> bool
+    ensures { λ r. ⌜ r ≡ reads call ⌝ }
+{
+    match call {
+        Call::Reading {
+            day: _,
+            reading: _,
+            fuel: _,
+        } => true,
+        Call::Disconnection {
+            day: _,
+            reading: _,
+            fuel: _,
+        } => true,
+        Call::Cancellation {
+            day: _,
+            reading: _,
+            fuel: _,
+        } => true,
+        _ => false,
+    }
+}
+
+// A call that looks at no estimate.
+pub fn plan_call(head: Head, call: Call, volumes: &mut [u32; 7]) -> Plan
+    requires { ⌜ HeadBounds head ⌝ }
+    requires { ⌜ length (now volumes) ≡ 7 ⌝ }
+    ensures { λ r. ⌜ r ≡ planned head [] call ⌝ }
+    ensures { λ _. ⌜ now (volumes .exit) ≡ filledWith (plannedVolumes head [] call) (now (volumes .entry)) ⌝ }
+{
+    match call {
+        Call::Opening {
+            day,
+            reading,
+            digits,
+        } => plan_opening(head, day, reading, digits),
+        Call::Reading { day, reading, fuel } => {
+            plan_reading(head, day, reading, fuel, Then::Goes, volumes)
+        }
+        Call::Missed { day, fuel } => plan_miss(head, day, fuel, false, head.meter.previous),
+        Call::Absent { day, fuel } => plan_miss(head, day, fuel, true, 0),
+        Call::Exchange {
+            day,
+            old,
+            new,
+            digits,
+        } => plan_exchange(head, day, old, new, digits),
+        Call::Disconnection { day, reading, fuel } => {
+            plan_reading(head, day, reading, fuel, Then::Stops, volumes)
+        }
+        Call::Reconnection {
+            day,
+            reading,
+            digits,
+        } => plan_reconnection(head, day, reading, digits),
+        Call::Cancellation { day, reading, fuel } => {
+            plan_reading(head, day, reading, fuel, Then::Ends, volumes)
+        }
+        Call::Payment { day, yen } => plan_payment(head, day, yen),
+        Call::StoppedCancellation { day } => plan_stopped(head, day),
+    }
+}
+
+// A call that reads the meter, where estimates stand.
+pub fn plan_over(head: Head, estimates: Estimates, call: Call, volumes: &mut [u32; 7]) -> Plan
+    requires { ⌜ HeadBounds head ⌝ }
+    requires { ⌜ AtMostSix estimates ⌝ }
+    requires { ⌜ Every EstimateBounds (standing estimates) ⌝ }
+    requires { ⌜ length (now volumes) ≡ 7 ⌝ }
+    requires { ⌜ reads call ≡ true ⌝ }
+    ensures { λ r. ⌜ r ≡ planned head (standing estimates) call ⌝ }
+    ensures { λ _. ⌜ now (volumes .exit) ≡ filledWith (plannedVolumes head (standing estimates) call) (now (volumes .entry)) ⌝ }
+{
+    match call {
+        Call::Reading { day, reading, fuel } => {
+            plan_reading_over(head, estimates, day, reading, fuel, Then::Goes, volumes)
+        }
+        Call::Disconnection { day, reading, fuel } => {
+            plan_reading_over(head, estimates, day, reading, fuel, Then::Stops, volumes)
+        }
+        Call::Cancellation { day, reading, fuel } => {
+            plan_reading_over(head, estimates, day, reading, fuel, Then::Ends, volumes)
+        }
+        _ => quiet(0, head),
+    }
+}
+
+// 01
+fn plan_opening(head: Head, day: u16, reading: u32, digits: u8) -> Plan
+    ensures { λ r. ⌜ r ≡ plannedAs (dialRefusal (isNew (head .status)) head day reading digits) (begunPlan head day reading digits day) head ⌝ }
+{
+    let status = head.status;
+    let number = dial_refusal(is_new(status), head, day, reading, digits);
+    if number != 0 {
+        return quiet(number, head);
+    }
+    begin_period(head, day, reading, digits, day)
+}
+
+// 07
+fn plan_reconnection(head: Head, day: u16, reading: u32, digits: u8) -> Plan
+    ensures { λ r. ⌜ r ≡ plannedAs (dialRefusal (isStopped (head .status)) head day reading digits) (begunPlan head day reading digits (resumedStart (stopOf (head .status)) day)) head ⌝ }
+{
+    let status = head.status;
+    let number = dial_refusal(is_stopped(status), head, day, reading, digits);
+    if number != 0 {
+        return quiet(number, head);
+    }
+    let start = resumed_start(stop_of(status), day);
+    begin_period(head, day, reading, digits, start)
+}
+
+// The dial is set and a period begins.
+fn begin_period(head: Head, day: u16, reading: u32, digits: u8, start: u16) -> Plan
+    ensures { λ r. ⌜ r ≡ begunPlan head day reading digits start ⌝ }
+{
+    let meter = head.meter;
+    quiet(
+        0,
+        Head {
+            status: Status::Supplied { start },
+            latest: day,
+            meter: Meter {
+                digits,
+                dial: reading,
+                pool: meter.pool,
+                previous: meter.previous,
+            },
+            standing: head.standing,
+        },
+    )
+}
+
+// 05: the old meter's advance goes to the pool, and the new meter goes on.
+fn plan_exchange(head: Head, day: u16, old: u32, new: u32, digits: u8) -> Plan
+    requires { ⌜ HeadBounds head ⌝ }
+    ensures { λ r. ⌜ r ≡ plannedAs (exchangeRefusal head day old new digits) (exchangedPlan head day old new digits) head ⌝ }
+{
+    let status = head.status;
+    let meter = head.meter;
+    let number = exchange_refusal(head, day, old, new, digits);
+    if number != 0 {
+        return quiet(number, head);
+    }
+    let pool = pool_to(meter, old);
+    quiet(
+        0,
+        Head {
+            status,
+            latest: day,
+            meter: Meter {
+                digits,
+                dial: new,
+                pool,
+                previous: meter.previous,
+            },
+            standing: head.standing,
+        },
+    )
+}
+
+// 09: interest that the payment brings is held, and on a cancelled account posted at once.
+fn plan_payment(head: Head, day: u16, yen: u32) -> Plan
+    ensures { λ r. ⌜ r ≡ plannedAs (paymentRefusal head day yen) (paymentPlan head day yen) head ⌝ }
+{
+    let status = head.status;
+    let number = payment_refusal(head, day, yen);
+    if number != 0 {
+        return quiet(number, head);
+    }
+    asking(
+        head,
+        status,
+        Entry {
+            day,
+            money: yen as u64,
+            closes: false,
+            charge: 0,
+            posts: is_cancelled(status),
+        },
+    )
+}
+
+// 0a: interest held is posted, as by a closing with no net.
+fn plan_stopped(head: Head, day: u16) -> Plan
+    ensures { λ r. ⌜ r ≡ plannedAs (begins (isStopped (head .status)) (head .latest) day 0) (stoppedPlan head day) head ⌝ }
+{
+    let status = head.status;
+    let number = start_refusal(is_stopped(status), head.latest, day);
+    if number != 0 {
+        return quiet(number, head);
+    }
+    asking(
+        head,
+        Status::Cancelled,
+        Entry {
+            day,
+            money: 0,
+            closes: true,
+            charge: 0,
+            posts: false,
+        },
+    )
+}
+
+// A plan that asks something of the ledger, and no more.
+fn asking(head: Head, status: Status, entry: Entry) -> Plan
+    ensures { λ r. ⌜ r ≡ askingPlan head status entry ⌝ }
+{
+    let meter = head.meter;
+    Plan {
+        number: 0,
+        head: Head {
+            status,
+            latest: entry.day,
+            meter,
+            standing: head.standing,
+        },
+        change: Change::Kept,
+        asks: true,
+        entry,
+        estimated: 0,
+        count: 0,
+        net: 0,
+    }
+}
+
+// 03 and 04
+fn plan_miss(head: Head, day: u16, fuel: Fuel, absent: bool, volume: u32) -> Plan
+    requires { ⌜ HeadBounds head ⌝ }
+    requires { ⌜ volume ≤ mostVolume ⌝ }
+    ensures { λ r. ⌜ r ≡ plannedAs (missRefusal head day fuel) (missPlan head day fuel absent volume) head ⌝ }
+{
+    let number = miss_refusal(head, day, fuel);
+    if number != 0 {
+        return quiet(number, head);
+    }
+    estimate_period(head, day, fuel, absent, volume)
+}
+
+// The period is billed on an estimate, which stands until a reading.
+fn estimate_period(head: Head, day: u16, fuel: Fuel, absent: bool, volume: u32) -> Plan
+    requires { ⌜ HeadBounds head ⌝ }
+    requires { ⌜ missRefusal head day fuel ≡ 0 ⌝ }
+    requires { ⌜ volume ≤ mostVolume ⌝ }
+    ensures { λ r. ⌜ r ≡ missPlan head day fuel absent volume ⌝ }
+{
+    let status = head.status;
+    let meter = head.meter;
+    let days = days_of(start_of(status), day);
+    let charged = price(days as u32, fuel, volume);
+    Plan {
+        number: 0,
+        head: Head {
+            status: Status::Supplied { start: day + 1 },
+            latest: day,
+            meter: Meter {
+                digits: meter.digits,
+                dial: meter.dial,
+                pool: meter.pool,
+                previous: volume,
+            },
+            standing: head.standing + 1,
+        },
+        change: Change::Added {
+            estimate: Estimate {
+                absent,
+                days,
+                fuel,
+                volume,
+                charged,
+            },
+        },
+        asks: true,
+        entry: Entry {
+            day,
+            money: 0,
+            closes: true,
+            charge: charged as u64,
+            posts: false,
+        },
+        estimated: volume,
+        count: 0,
+        net: charged as i32,
+    }
+}
+
+// 02, 06 and 08 where no estimate stands
+fn plan_reading(
+    head: Head,
+    day: u16,
+    reading: u32,
+    fuel: Fuel,
+    then: Then,
+    volumes: &mut [u32; 7],
+) -> Plan
+    requires { ⌜ HeadBounds head ⌝ }
+    requires { ⌜ length (now volumes) ≡ 7 ⌝ }
+    ensures { λ r. ⌜ r ≡ plannedAs (readingRefusal head day reading fuel) (readPlan head [] day reading fuel then) head ⌝ }
+    ensures { λ _. ⌜ now (volumes .exit) ≡ filledWith (volumesAs (readingRefusal head day reading fuel) (finals head [] reading)) (now (volumes .entry)) ⌝ }
+{
+    let number = reading_refusal(head, day, reading, fuel);
+    if number != 0 {
+        return quiet(number, head);
+    }
+    let figures = close_alone(head, day, reading, fuel, volumes);
+    after_reading(head, day, reading, then, figures)
+}
+
+// 02, 06 and 08 where estimates stand
+fn plan_reading_over(
+    head: Head,
+    estimates: Estimates,
+    day: u16,
+    reading: u32,
+    fuel: Fuel,
+    then: Then,
+    volumes: &mut [u32; 7],
+) -> Plan
+    requires { ⌜ HeadBounds head ⌝ }
+    requires { ⌜ AtMostSix estimates ⌝ }
+    requires { ⌜ Every EstimateBounds (standing estimates) ⌝ }
+    requires { ⌜ length (now volumes) ≡ 7 ⌝ }
+    ensures { λ r. ⌜ r ≡ plannedAs (readingRefusal head day reading fuel) (readPlan head (standing estimates) day reading fuel then) head ⌝ }
+    ensures { λ _. ⌜ now (volumes .exit) ≡ filledWith (volumesAs (readingRefusal head day reading fuel) (finals head (standing estimates) reading)) (now (volumes .entry)) ⌝ }
+{
+    let number = reading_refusal(head, day, reading, fuel);
+    if number != 0 {
+        return quiet(number, head);
+    }
+    let figures = close_over(head, estimates, day, reading, fuel, volumes);
+    after_reading(head, day, reading, then, figures)
+}
+
+// All volumes are final, so no estimate stands and the pool is 0. A cancellation posts the interest that it brings, too.
+fn after_reading(head: Head, day: u16, reading: u32, then: Then, figures: Figures) -> Plan
+    requires { ⌜ day ≤ lastCallDay ⌝ }
+    requires { ⌜ NetBounds (figures .net) ⌝ }
+    ensures { λ r. ⌜ r ≡ figuredPlan head day reading then figures ⌝ }
+{
+    let meter = head.meter;
+    let net = figures.net;
+    Plan {
+        number: 0,
+        head: Head {
+            status: status_after(then, day),
+            latest: day,
+            meter: Meter {
+                digits: meter.digits,
+                dial: reading,
+                pool: 0,
+                previous: figures.volume,
+            },
+            standing: 0,
+        },
+        change: Change::Cleared,
+        asks: true,
+        entry: Entry {
+            day,
+            money: credit_of(net),
+            closes: true,
+            charge: charge_of(net),
+            posts: ends(then),
+        },
+        estimated: 0,
+        count: figures.count,
+        net,
+    }
+}
+
+fn ends(then: Then) -> bool
+    ensures { λ r. ⌜ r ≡ ends then ⌝ }
+{
+    match then {
+        Then::Goes => false,
+        Then::Stops => false,
+        Then::Ends => true,
+    }
+}
+
+fn status_after(then: Then, day: u16) -> Status
+    requires { ⌜ day ≤ lastCallDay ⌝ }
+    ensures { λ r. ⌜ r ≡ statusAfter then day ⌝ }
+{
+    match then {
+        Then::Goes => Status::Supplied { start: day + 1 },
+        Then::Stops => Status::Stopped { stop: day },
+        Then::Ends => Status::Cancelled,
+    }
+}
+
+// A plan that asks nothing of the ledger.
+fn quiet(number: u8, head: Head) -> Plan
+    ensures { λ r. ⌜ r ≡ quietPlan number head ⌝ }
+{
+    Plan {
+        number,
+        head,
+        change: Change::Kept,
+        asks: false,
+        entry: NO_ENTRY,
+        estimated: 0,
+        count: 0,
+        net: 0,
+    }
+}
