@@ -18,7 +18,8 @@ use Rattle.meter.specs.Dial.{OnDial}
 use Rattle.meter.specs.Sharing.{AtMostSix}
 use Rattle.ledger.specs.declared.Item.{Item}
 use Rattle.ledger.specs.declared.Ledger.{Ledger}
-use Rattle.ledger.specs.Posting.{Standing, standing, stored, closed, capacity, Ready, chargeOf, creditOf, ItemBounds, OpenBounds, LedgerBounds, NetBounds}
+use Rattle.ledger.specs.Limits.{capacity}
+use Rattle.ledger.specs.Posting.{Standing, standing, stored, closed, Ready, chargeOf, creditOf, ItemBounds, OpenBounds, LedgerBounds, NetBounds}
 use Rattle.ledger.proofs.Bounds.{stored-bounds}
 use Rattle.account.specs.declared.Status.{Status}
 use Rattle.account.specs.declared.Status.the-variants.{New, Supplied, Stopped, Cancelled}

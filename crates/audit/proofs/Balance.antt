@@ -19,7 +19,8 @@ use Rattle.ledger.specs.declared.Ledger.{Ledger}
 use Rattle.ledger.specs.Interest.{isPrice}
 use Rattle.ledger.specs.Settling.{settle, unpaidOf}
 use Rattle.ledger.specs.Posting
-use Rattle.ledger.specs.Posting.{Standing, standing, stored, entered, post, paid, heldPosted, chargeOf, creditOf, capacity}
+use Rattle.ledger.specs.Limits.{capacity}
+use Rattle.ledger.specs.Posting.{Standing, standing, stored, entered, post, paid, heldPosted, chargeOf, creditOf}
 use Rattle.ledger.proofs.Settling.{Once, twice-once, day-left, day-open, conserved}
 use Rattle.ledger.proofs.Bounds.{standing-stored}
 use Rattle.audit.specs.Book

@@ -8,7 +8,8 @@ use Rattle.lists.specs.Every.{Every}
 use Rattle.lists.proofs.Every.{every-at}
 use Rattle.lists.proofs.Pad.{take-pad}
 use Rattle.ledger.specs.declared.Ledger.{Ledger}
-use Rattle.ledger.specs.Posting.{Standing, standing, stored, blank, capacity, ItemBounds, OpenBounds}
+use Rattle.ledger.specs.Limits.{capacity}
+use Rattle.ledger.specs.Posting.{Standing, standing, stored, blank, ItemBounds, OpenBounds}
 
 -- What is stored and fits is what stands.
 pub standing-stored : (s : Standing) → length (s .open-items) ≤ capacity → standing (stored s) ≡ s

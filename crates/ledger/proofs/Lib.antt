@@ -7,3 +7,10 @@ pub mod Cover
 pub mod Paying
 pub mod Signed
 pub mod Oldest
+pub mod Steps
+pub mod Tallies
+pub mod Entries
+pub mod Within
+pub mod Places
+pub mod Queues
+pub mod Rows

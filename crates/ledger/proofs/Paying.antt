@@ -13,7 +13,8 @@ use Rattle.ledger.specs.declared.Item.{Item}
 use Rattle.ledger.specs.declared.Coverage.{Coverage}
 use Rattle.ledger.specs.Interest.{interestOn}
 use Rattle.ledger.specs.Settling.{Settlement, reduced, settle, settledCount}
-use Rattle.ledger.specs.Posting.{Standing, settledWith, post, paid, blank, capacity, stored, coverage, ItemBounds}
+use Rattle.ledger.specs.Limits.{capacity}
+use Rattle.ledger.specs.Posting.{Standing, settledWith, post, paid, blank, stored, coverage, ItemBounds}
 use Rattle.ledger.proofs.Interest.{interest-most}
 use Rattle.ledger.proofs.Settling.{arisen-most}
 use Rattle.ledger.proofs.Cover.{all-settled, not-covered}

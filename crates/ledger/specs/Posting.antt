@@ -14,6 +14,7 @@ use Rattle.ledger.specs.declared.Kind.the-variants.{Interest, Price}
 use Rattle.ledger.specs.declared.Item.{Item}
 use Rattle.ledger.specs.declared.Ledger.{Ledger}
 use Rattle.ledger.specs.declared.Coverage.{Coverage}
+use Rattle.ledger.specs.Limits.{capacity, mostPrice, mostInterest, mostMoney}
 use Rattle.ledger.specs.Interest.{isPrice}
 use Rattle.ledger.specs.Settling.{Settlement, settle, settledCount, unpaidOf}
 
@@ -70,9 +71,6 @@ heldPosted day s = post day 0 (entered Interest day (s .held)) (noneHeld s)
 abbrev pub blank : Item
 blank = record { amount = 0; unpaid = 0; obligation = 0; due = 0; kind = Interest }
 
-abbrev pub capacity : ℕ
-capacity = 72
-
 -- What stands on a ledger as the account holds it.
 abbrev pub standing : Ledger → Standing
 standing ledger = record { open-items = take (ledger .count) (ledger .items); credit = ledger .credit; held = ledger .held }
@@ -94,8 +92,8 @@ coverage day money items =
 -- What the code needs to know of an item and of a ledger, so that no sum overflows.
 pub record ItemBounds (item : Item) : Type 0 where
   pub unpaid-least : 1 ≤ item .unpaid
-  pub unpaid-most : item .unpaid ≤ 1000000000000
-  pub price-most : isPrice (item .kind) ≡ true → item .amount ≤ 1000000000
+  pub unpaid-most : item .unpaid ≤ mostInterest
+  pub price-most : isPrice (item .kind) ≡ true → item .amount ≤ mostPrice
 
 pub record OpenBounds (ledger : Ledger) : Type 0 where
   pub count-most : ledger .count ≤ capacity
@@ -103,12 +101,12 @@ pub record OpenBounds (ledger : Ledger) : Type 0 where
 
 pub record LedgerBounds (ledger : Ledger) : Type 0 where
   pub open-bounds : OpenBounds ledger
-  pub held-most : ledger .held ≤ 1000000000000
+  pub held-most : ledger .held ≤ mostInterest
   pub credit-most : ledger .credit ≤ 1000000000
 
 -- A net that no closing exceeds.
 abbrev pub NetBounds : ℤ → Type 0
-NetBounds net = (chargeOf net ≤ 1000000000) × (creditOf net ≤ 1000000000)
+NetBounds net = (chargeOf net ≤ mostPrice) × (creditOf net ≤ mostMoney)
 
 -- A standing that has settled what it can: what is left is 0 or nothing is open, and no open item is at 0.
 pub record Ready (s : Standing) : Type 0 where

@@ -8,7 +8,18 @@ ghost use Rattle.lists.specs.Pad.{pad};
 ghost use Rattle.ledger.specs.Interest.{isPrice, body, interestOn};
 ghost use Rattle.ledger.specs.Settling.{unpaidOf};
 ghost use Rattle.ledger.specs.Oldest.{oldest, withOldest};
-ghost use Rattle.ledger.specs.Posting.{stored, standing, entered, post, closed, paid, heldPosted, coverage, blank, capacity, chargeOf, creditOf, OpenBounds, LedgerBounds, NetBounds, Stands};
+ghost use Rattle.ledger.specs.Posting.{stored, standing, entered, post, closed, paid, heldPosted, coverage, blank, chargeOf, creditOf, OpenBounds, LedgerBounds, NetBounds, Stands};
+ghost use Rattle.ledger.specs.Limits.{lastCallDay, capacity, mostPrice, mostMoney};
+ghost use Rattle.ledger.specs.Entries.{EntryBounds, Within, Answered};
+
+pub mod lanes;
+pub mod limits;
+mod numbers;
+
+use crate::lanes::gathered;
+use crate::lanes::spread;
+use crate::limits::CAPACITY;
+use crate::limits::LANE_PLACES;
 
 pub enum Kind {
     Interest,
@@ -26,7 +37,7 @@ pub struct Item {
 // The open items from the front, oldest first; interest held until the next closing; the credit balance.
 pub struct Ledger {
     pub count: usize,
-    pub items: [Item; 72],
+    pub items: [Item; CAPACITY],
     pub held: u64,
     pub credit: u64,
 }
@@ -38,10 +49,43 @@ pub struct Coverage {
     pub arisen: u64,
 }
 
-// Days from obligation to due (H).
-const TERM: u16 = 30;
+// What a call asks of the ledger: money that comes in, and a charge where it closes; with `posts`, interest that is held then is posted as one last item.
+pub struct Entry {
+    pub day: u16,
+    pub money: u64,
+    pub closes: bool,
+    pub charge: u64,
+    pub posts: bool,
+}
 
-const BLANK: Item = Item {
+// The numbers of a queue of items that lie from `front` on; `owed` is what is unpaid of them.
+pub struct Queue {
+    pub front: usize,
+    pub count: usize,
+    pub owed: u64,
+    pub held: u64,
+    pub credit: u64,
+}
+
+// What an entry is answered where the items lie: 0, 12 or 13, the interest posted, and the queue after it.
+pub struct Entered {
+    pub number: u8,
+    pub interest: u64,
+    pub queue: Queue,
+}
+
+// What an entry is answered on a ledger, with the ledger after it and what is unpaid on it.
+pub struct Posted {
+    pub number: u8,
+    pub ledger: Ledger,
+    pub interest: u64,
+    pub unpaid: u64,
+}
+
+// Days from obligation to due (H).
+pub const TERM: u16 = 30;
+
+pub const BLANK: Item = Item {
     amount: 0,
     unpaid: 0,
     obligation: 0,
@@ -55,9 +99,44 @@ impl Ledger {
     {
         Ledger {
             count: 0,
-            items: [BLANK; 72],
+            items: [BLANK; CAPACITY],
             held: 0,
             credit: 0,
+        }
+    }
+
+    // An entry worked where the items are spread.
+    pub fn enter(self, entry: Entry) -> Posted
+        requires { ⌜ Within (standing self) ⌝ }
+        requires { ⌜ self .count ≤ capacity ⌝ }
+        requires { ⌜ EntryBounds entry ⌝ }
+        ensures { λ r. ⌜ Answered entry (standing self) r ⌝ }
+    {
+        let all = self.items;
+        let mut unpaid = [0u64; LANE_PLACES];
+        let mut amount = [0u64; LANE_PLACES];
+        let mut label = [0u64; LANE_PLACES];
+        spread(all, &mut unpaid, &mut amount, &mut label);
+        let queue = Queue {
+            front: 0,
+            count: self.count,
+            owed: self.unpaid(),
+            held: self.held,
+            credit: self.credit,
+        };
+        let entered = lanes::enter(&mut unpaid, &mut amount, &mut label, queue, entry);
+        let after = entered.queue;
+        let items = gathered(&unpaid, &amount, &label, after.front, after.count);
+        Posted {
+            number: entered.number,
+            ledger: Ledger {
+                count: after.count,
+                items,
+                held: after.held,
+                credit: after.credit,
+            },
+            interest: entered.interest,
+            unpaid: after.owed,
         }
     }
 
@@ -99,7 +178,7 @@ impl Ledger {
     // As many items from the front as an amount covers: 28.
     fn cover(self, day: u16, money: u64) -> Coverage
         requires { ⌜ LedgerBounds self ⌝ }
-        requires { ⌜ day ≤ 36494 ⌝ }
+        requires { ⌜ day ≤ lastCallDay ⌝ }
         ensures { λ r. ⌜ r ≡ coverage day money (standing self .open-items) ⌝ }
     {
         let count = self.count;
@@ -125,8 +204,8 @@ impl Ledger {
     // A payment, or money credited: the oldest items are settled first, and what is over is credit.
     pub fn pay(self, day: u16, yen: u64) -> Ledger
         requires { ⌜ LedgerBounds self ⌝ }
-        requires { ⌜ day ≤ 36494 ⌝ }
-        requires { ⌜ yen ≤ 1000000000 ⌝ }
+        requires { ⌜ day ≤ lastCallDay ⌝ }
+        requires { ⌜ yen ≤ mostMoney ⌝ }
         ensures { λ r. ⌜ r ≡ stored (paid day yen (standing self)) ⌝ }
     {
         let cover = self.cover(day, self.credit + yen);
@@ -155,7 +234,7 @@ impl Ledger {
 
     // An amount above zero becomes an item of the day, less the credit that is there.
     fn post_item(mut self, kind: Kind, day: u16, amount: u64) -> Ledger
-        requires { ⌜ day ≤ 36494 ⌝ }
+        requires { ⌜ day ≤ lastCallDay ⌝ }
         requires { ⌜ self .count ≤ 80 ⌝ }
         requires { ⌜ Stands self ⌝ }
         ensures { λ r. ⌜ ((s : Stands self) → r ≡ stored (post day 0 (entered kind day amount) (s .on))) ⌝ }
@@ -186,7 +265,7 @@ impl Ledger {
     // A closing: interest held becomes an item, then a net above zero; a net below zero is credited.
     pub fn close(self, day: u16, net: i32) -> Ledger
         requires { ⌜ LedgerBounds self ⌝ }
-        requires { ⌜ day ≤ 36494 ⌝ }
+        requires { ⌜ day ≤ lastCallDay ⌝ }
         requires { ⌜ NetBounds net ⌝ }
         ensures { λ r. ⌜ r ≡ stored (closed day net (standing self)) ⌝ }
     {
@@ -201,7 +280,7 @@ impl Ledger {
 
     // Interest held becomes an item by itself.
     pub fn post_held(self, day: u16) -> Ledger
-        requires { ⌜ day ≤ 36494 ⌝ }
+        requires { ⌜ day ≤ lastCallDay ⌝ }
         requires { ⌜ self .count ≤ 80 ⌝ }
         requires { ⌜ Stands self ⌝ }
         ensures { λ r. ⌜ ((s : Stands self) → r ≡ stored (heldPosted day (s .on))) ⌝ }
@@ -214,7 +293,7 @@ impl Ledger {
 }
 
 // The items with one more at a place, where the array has it.
-fn with_item(items: [Item; 72], at: usize, item: Item) -> [Item; 72]
+fn with_item(items: [Item; CAPACITY], at: usize, item: Item) -> [Item; CAPACITY]
     ensures { λ r. ⌜ r ≡ set items at item ⌝ }
 {
     let mut out = items;
@@ -226,13 +305,13 @@ fn with_item(items: [Item; 72], at: usize, item: Item) -> [Item; 72]
 }
 
 // The items from a place on, moved to the front.
-fn rest_of(items: [Item; 72], from: usize, count: usize) -> [Item; 72]
+fn rest_of(items: [Item; CAPACITY], from: usize, count: usize) -> [Item; CAPACITY]
     requires { ⌜ count ≤ capacity ⌝ }
     requires { ⌜ from ≤ count ⌝ }
     ensures { λ r. ⌜ r ≡ pad capacity blank (drop from (take count items)) ⌝ }
 {
     let rest = count - from;
-    let mut out = [BLANK; 72];
+    let mut out = [BLANK; CAPACITY];
     let mut i: usize = 0;
     while i < rest {
         out[i] = items[from + i];
@@ -242,14 +321,14 @@ fn rest_of(items: [Item; 72], from: usize, count: usize) -> [Item; 72]
 }
 
 // The part of a net that is charged.
-fn charge_of(net: i32) -> u64
+pub fn charge_of(net: i32) -> u64
     ensures { λ r. ⌜ r ≡ chargeOf net ⌝ }
 {
     if net < 0 { 0 } else { net as u64 }
 }
 
 // The part of a net that is credited.
-fn credit_of(net: i32) -> u64
+pub fn credit_of(net: i32) -> u64
     requires { ⌜ NetBounds net ⌝ }
     ensures { λ r. ⌜ r ≡ creditOf net ⌝ }
 {
@@ -258,7 +337,7 @@ fn credit_of(net: i32) -> u64
 
 // The amount of a price without the tax in it: 27(2).
 fn body_of(amount: u64) -> u64
-    requires { ⌜ amount ≤ 1000000000 ⌝ }
+    requires { ⌜ amount ≤ mostPrice ⌝ }
     ensures { λ r. ⌜ r ≡ body amount ⌝ }
 {
     amount - amount * 8 / 108
@@ -266,7 +345,7 @@ fn body_of(amount: u64) -> u64
 
 // The interest of an item that is settled on a day: 27.
 fn interest_on(item: Item, day: u16) -> u64
-    requires { ⌜ (isPrice (item .kind) ≡ true → item .amount ≤ 1000000000) ⌝ }
+    requires { ⌜ (isPrice (item .kind) ≡ true → item .amount ≤ mostPrice) ⌝ }
     ensures { λ r. ⌜ r ≡ interestOn item day ⌝ }
 {
     let kind = item.kind;

@@ -7,7 +7,8 @@ use lib.Seq.{getD-drop}
 use borrow.Author.Needs.{needs}
 use Rattle.lists.proofs.Pad.{drop-take, length-of-mapped, pad-next}
 use Rattle.lists.specs.Pad.{pad}
-use Rattle.ledger.specs.Posting.{blank, capacity}
+use Rattle.ledger.specs.Limits.{capacity}
+use Rattle.ledger.specs.Posting.{blank}
 use Rattle.ledger.proofs.rest_of.Statement.{statement}
 use Rattle.ledger.proofs.rest_of.Tie as tie
 

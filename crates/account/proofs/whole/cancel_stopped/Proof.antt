@@ -5,7 +5,8 @@ use native.Mathlib.Omega.{arith}
 use lib.IntN.{pos}
 use Rattle.meter.specs.Sharing.{volumesOf}
 use Rattle.ledger.specs.declared.Ledger.{Ledger}
-use Rattle.ledger.specs.Posting.{capacity, OpenBounds, standing, stored, heldPosted}
+use Rattle.ledger.specs.Limits.{capacity}
+use Rattle.ledger.specs.Posting.{OpenBounds, standing, stored, heldPosted}
 use Rattle.ledger.proofs.Posting.{closed-with-none}
 use Rattle.account.specs.declared.Status.the-variants.{Cancelled}
 use Rattle.account.specs.declared.Answer.{Answer}

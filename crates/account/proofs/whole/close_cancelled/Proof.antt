@@ -5,7 +5,8 @@ use native.Mathlib.Omega.{arith}
 use borrow.Author.Needs.{needs}
 use Rattle.meter.specs.Sharing.{volumesOf}
 use Rattle.ledger.specs.declared.Ledger.{Ledger}
-use Rattle.ledger.specs.Posting.{capacity, OpenBounds, stored, heldPosted, Stands}
+use Rattle.ledger.specs.Limits.{capacity}
+use Rattle.ledger.specs.Posting.{OpenBounds, stored, heldPosted, Stands}
 use Rattle.account.specs.declared.Account.{Account}
 use Rattle.account.specs.declared.Answer.{Answer}
 use Rattle.account.specs.declared.closing.Closing.{Closing}

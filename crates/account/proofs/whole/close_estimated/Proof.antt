@@ -11,7 +11,8 @@ use Rattle.tariff.specs.Price.{priceOf, Billable}
 use Rattle.tariff.proofs.Bounds.{price-most}
 use Rattle.meter.specs.Sharing.{volumesOf}
 use Rattle.ledger.specs.declared.Ledger.{Ledger}
-use Rattle.ledger.specs.Posting.{Standing, capacity, OpenBounds, NetBounds, standing, stored, closed}
+use Rattle.ledger.specs.Limits.{capacity}
+use Rattle.ledger.specs.Posting.{Standing, OpenBounds, NetBounds, standing, stored, closed}
 use Rattle.account.specs.declared.Status.the-variants.{Supplied}
 use Rattle.account.specs.declared.Answer.{Answer}
 use Rattle.account.specs.Closing.{startOf, daysOf, storedEstimates}

@@ -4,7 +4,8 @@ use Prim.Native.Nat.{_≤_}
 use borrow.Author.Needs.{needs}
 use Rattle.meter.specs.Sharing.{volumesOf}
 use Rattle.ledger.specs.declared.Ledger.{Ledger}
-use Rattle.ledger.specs.Posting.{capacity, OpenBounds, stored}
+use Rattle.ledger.specs.Limits.{capacity}
+use Rattle.ledger.specs.Posting.{OpenBounds, stored}
 use Rattle.account.specs.declared.Account.{Account}
 use Rattle.account.specs.declared.Answer.{Answer}
 use Rattle.account.specs.declared.closing.Closing.{Closing}

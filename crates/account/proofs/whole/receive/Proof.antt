@@ -6,7 +6,8 @@ use lib.IntN.{pos}
 use borrow.Author.Needs.{needs}
 use Rattle.meter.specs.Sharing.{volumesOf}
 use Rattle.ledger.specs.declared.Ledger.{Ledger}
-use Rattle.ledger.specs.Posting.{capacity, OpenBounds, stored, heldPosted, Stands}
+use Rattle.ledger.specs.Limits.{capacity}
+use Rattle.ledger.specs.Posting.{OpenBounds, stored, heldPosted, Stands}
 use Rattle.account.specs.declared.Answer.{Answer}
 use Rattle.account.specs.Calls.{isCancelled, paidLedger, withLedger}
 use Rattle.account.proofs.Sound.{Bounded, Sound, posted-sound, held-most}

@@ -8,7 +8,8 @@ use borrow.Author.Needs.{needs}
 use Rattle.lists.proofs.Pad.{length-of-mapped}
 use Rattle.ledger.specs.Interest.{interestOn}
 use Rattle.ledger.specs.declared.Ledger.{Ledger}
-use Rattle.ledger.specs.Posting.{blank, capacity}
+use Rattle.ledger.specs.Limits.{capacity}
+use Rattle.ledger.specs.Posting.{blank}
 use Rattle.ledger.proofs.Bounds.{bounds-at, open-count}
 use Rattle.ledger.proofs.Cover.{Covering, covering-first, covering-next, covering-all, covering-short}
 use Rattle.ledger.proofs.Interest.{interest-most}

@@ -6,7 +6,8 @@ use lib.ListN.{length, length-append}
 use borrow.Author.Needs.{needs}
 use Rattle.lists.proofs.Pad.{pad-push}
 use Rattle.ledger.specs.Settling.{reduced}
-use Rattle.ledger.specs.Posting.{newItem, blank, capacity}
+use Rattle.ledger.specs.Limits.{capacity}
+use Rattle.ledger.specs.Posting.{newItem, blank}
 use Rattle.ledger.proofs.Posting.{post-covered, post-short}
 use Rattle.ledger.proofs.Ledger.post_item.Statement.{statement}
 use Rattle.ledger.proofs.Ledger.post_item.Tie as tie

@@ -1,0 +1,75 @@
+-- What keeps an entry's numbers within their bounds. Assumes nothing.
+use mathlib.Core.Path.{_≡_, refl}
+use mathlib.Core.Logic.{⊎-elim}
+use mathlib.Core.Bool.{Bool, true, false, cond}
+use mathlib.Core.List.{List, [], _∷_, _++_}
+use Prim.Native.Nat.{ℕ, _+_, _-_, _*_, _≤_, _<_}
+use native.Mathlib.Nat.{suc-mul, suc-ne-zero, eq-zero-or-pos}
+use native.Mathlib.Omega.{arith}
+use lib.Dec.{leb}
+use lib.ListN.{length, length-append}
+use borrow.Author.Tests.{leb-true}
+use Rattle.lists.specs.Every.{Every}
+use Rattle.lists.proofs.Every.{every-append, every-map}
+use Rattle.ledger.specs.declared.Kind.{Kind}
+use Rattle.ledger.specs.declared.Item.{Item}
+use Rattle.ledger.specs.Limits.{lastCallDay, capacity, mostPrice, mostInterest, mostArisen, mostCredit}
+use Rattle.ledger.specs.Interest.{isPrice, interestOn}
+use Rattle.ledger.specs.Settling.{reduced, unpaidOf}
+use Rattle.ledger.specs.Posting.{Standing, entered, post, ItemBounds}
+use Rattle.ledger.specs.Entries.{limitNumber}
+use Rattle.ledger.proofs.Interest.{interest-most}
+use Rattle.ledger.proofs.Settling.{settle-keeps, arisen-most}
+use Rattle.ledger.proofs.Posting.{Owing, entered-none, entered-some}
+
+reduced-bounds : (item : Item) (money : ℕ) → ItemBounds item → money < item .unpaid → ItemBounds (reduced item money)
+reduced-bounds item money w h = record { unpaid-least = omega arith; unpaid-most = omega (arith, w .unpaid-most); price-most = w .price-most }
+
+pub entered-bounds : (kind : Kind) (day amount : ℕ) → (isPrice kind ≡ true → amount ≤ mostPrice) → amount ≤ mostInterest
+    → Every ItemBounds (entered kind day amount)
+entered-bounds kind day amount price most =
+    ⊎-elim (λ (e : amount ≡ 0). rw (entered-none kind day amount e) tt)
+    (λ (l : 0 < amount).
+    rw (entered-some kind day amount l) (record { unpaid-least = l; unpaid-most = most; price-most = price }, tt))
+    (eq-zero-or-pos amount)
+
+pub post-bounds : (day money : ℕ) (items : List Item) (s : Standing) → Every ItemBounds (s .open-items) → Every ItemBounds items
+    → Every ItemBounds (post day money items s .open-items)
+unfolding post
+post-bounds day money items s old new =
+    settle-keeps ItemBounds reduced-bounds day (s .credit + money) (s .open-items ++ items)
+    (every-append ItemBounds (s .open-items) items old new)
+
+-- Interest held is bounded with the places of the open items: each item settled brings at most so much, and frees its place.
+abbrev pub load : Standing → ℕ
+load s = s .held + length (s .open-items) * mostArisen
+
+pub post-load : (day money : ℕ) (items : List Item) (s : Standing) → day ≤ lastCallDay → Every ItemBounds (s .open-items)
+    → Every ItemBounds items → load (post day money items s) ≤ load s + length items * mostArisen
+unfolding post
+post-load day money items s h old new =
+    let all = s .open-items ++ items in
+    let bounds : Every ItemBounds all = every-append ItemBounds (s .open-items) items old new in
+    let each : Every (λ item. interestOn item day ≤ mostArisen) all =
+    every-map ItemBounds (λ item. interestOn item day ≤ mostArisen) (λ item w. interest-most item day (w .price-most) h) all bounds in
+    omega (arith, arisen-most mostArisen day (s .credit + money) all each, length-append (s .open-items) items)
+
+pub owing : (items : List Item) → Every ItemBounds items → Owing items
+owing items w = every-map ItemBounds (λ item. 1 ≤ item .unpaid) (λ item b. b .unpaid-least) items w
+
+pub owed-most : (items : List Item) → Every ItemBounds items → unpaidOf items ≤ length items * mostInterest
+owed-most [] w = omega arith
+owed-most (item ∷ items) w = rw (suc-mul (length items) mostInterest) (omega (arith, w .0 .unpaid-most, owed-most items (w .1)))
+
+pub record Passes (count credit : ℕ) : Type 0 where
+  pub count-most : count ≤ capacity
+  pub credit-most : credit ≤ mostCredit
+
+pub number-passes : (count credit : ℕ) → limitNumber count credit ≡ 0 → Passes count credit
+number-passes count credit e = go (leb count capacity) refl (leb credit mostCredit) refl e
+  where
+    go : (b : Bool) → leb count capacity ≡ b → (d : Bool) → leb credit mostCredit ≡ d
+        → _≡_ {A = ℕ} (cond b (cond d 0 13) 12) 0 → Passes count credit
+    go true f true g z = record { count-most = leb-true count capacity f; credit-most = leb-true credit mostCredit g }
+    go true f false g z = absurd (suc-ne-zero 12 z)
+    go false f d g z = absurd (suc-ne-zero 11 z)

@@ -1,0 +1,59 @@
+-- What a call asks of the ledger, in one entry: money that comes in, and what a closing posts.
+use mathlib.Core.Path.{_≡_}
+use mathlib.Core.Bool.{cond}
+use mathlib.Core.List.{_++_}
+use Prim.Native.Nat.{ℕ, _+_, _≤_}
+use lib.Dec.{leb, eqb}
+use lib.ListN.{length}
+use Rattle.lists.specs.Every.{Every}
+use Rattle.ledger.specs.declared.Kind.the-variants.{Interest, Price}
+use Rattle.ledger.specs.declared.Entry.{Entry}
+use Rattle.ledger.specs.declared.Posted.{Posted}
+use Rattle.ledger.specs.Limits.{lastCallDay, capacity, mostPrice, mostInterest, mostMoney, mostCredit}
+use Rattle.ledger.specs.Settling.{unpaidOf}
+use Rattle.ledger.specs.Posting.{Standing, entered, post, noneHeld, paid, heldPosted, stored, ItemBounds}
+
+-- A closing first posts interest held, if any, as an item, then a charge as a price item. Money, a payment or a net below zero, settles the oldest item first.
+unfoldable pub taken : Entry → Standing → Standing
+taken e s =
+    cond (e .closes)
+    (post (e .day) (e .money) (entered Interest (e .day) (s .held) ++ entered Price (e .day) (e .charge)) (noneHeld s))
+    (paid (e .day) (e .money) s)
+
+-- On a cancelled account, interest is posted by the call that brings it, as one last item of the call's total.
+unfoldable pub asked : Entry → Standing → Standing
+asked e s = cond (e .posts) (heldPosted (e .day) (taken e s)) (taken e s)
+
+-- 12: more than 72 items would be open when the call ends. 13: credit after the call above 999,999,999.
+abbrev pub limitNumber : ℕ → ℕ → ℕ
+limitNumber count credit = cond (leb count capacity) (cond (leb credit mostCredit) 0 13) 12
+
+abbrev pub numberOf : Standing → ℕ
+numberOf s = limitNumber (length (s .open-items)) (s .credit)
+
+-- An entry that is refused changes nothing.
+abbrev pub next : Entry → Standing → Standing
+next e s = cond (eqb (numberOf (asked e s)) 0) (asked e s) s
+
+-- The interest that an entry posts: what was held, where it closes, and what arose, where it posts that.
+abbrev pub interestPosted : Entry → Standing → ℕ
+interestPosted e s = cond (e .closes) (s .held) 0 + cond (e .posts) (taken e s .held) 0
+
+pub record EntryBounds (e : Entry) : Type 0 where
+  pub day-most : e .day ≤ lastCallDay
+  pub money-most : e .money ≤ mostMoney
+  pub charge-most : e .charge ≤ mostPrice
+
+-- What is known of every whole account's ledger: enough for one entry.
+pub record Within (s : Standing) : Type 0 where
+  pub count-most : length (s .open-items) ≤ capacity
+  pub items-within : Every ItemBounds (s .open-items)
+  pub held-most : s .held ≤ mostInterest
+  pub credit-most : s .credit ≤ mostCredit
+
+-- What an entry at a standing is answered.
+pub record Answered (e : Entry) (s : Standing) (r : Posted) : Type 0 where
+  pub number-is : r .number ≡ numberOf (asked e s)
+  pub ledger-is : r .ledger ≡ stored (next e s)
+  pub unpaid-is : r .unpaid ≡ unpaidOf (next e s .open-items)
+  pub interest-is : r .number ≡ 0 → r .interest ≡ interestPosted e s
