@@ -1,24 +1,24 @@
 -- What a call comes to, by the checks that decide it. Assumes nothing.
-use mathlib.Core.Path.{_≡_, refl, sym, subst}
+use mathlib.Core.Path.{_≡_, refl}
 use mathlib.Core.Bool.{true, false}
 use Prim.Native.Nat.{ℕ, _≤_}
 use native.Mathlib.Omega.{arith}
 use borrow.Author.Tests.{leb-true, eq-eqb, ne-eqb, lt-ltb}
 use Rattle.ledger.specs.declared.Ledger.{Ledger}
 use Rattle.account.specs.declared.Account.{Account}
-use Rattle.account.specs.declared.Answer.{Answer}
-use Rattle.account.specs.declared.Outcome.{Outcome}
-use Rattle.account.specs.declared.Call.{Call}
+use Rattle.plan.specs.declared.Call.{Call}
 use Rattle.account.specs.Limits.{itemsAllowed, creditAllowed}
-use Rattle.account.specs.Calls.{Work, work}
+use Rattle.plan.specs.Refusals.{unless, firstRefusal}
+use Rattle.plan.proofs.Passed.{passes}
+use Rattle.ledger.specs.Limits.{capacity}
+use Rattle.account.specs.Calls.{headOf, Work, work}
 use Rattle.account.specs.Whole.{whole}
-use Rattle.account.specs.Refusals.{unless, firstRefusal, lastRefusal, refusal}
-use Rattle.account.specs.Outcomes.{Draft, declined, accepted, concluded, outcome}
-use Rattle.account.proofs.Passed.{passes}
+use Rattle.account.specs.Refusals.{lastRefusal, refusal}
+use Rattle.account.specs.Outcomes.{declined, accepted, concluded, outcome}
 
 -- 12 and 13.
-pub places-left : (ledger : Ledger) → lastRefusal ledger ≡ 0 → ledger .count ≤ 72
-places-left ledger e = leb-true (ledger .count) 72 (passes (itemsAllowed (ledger .count)) 11 (unless (creditAllowed (ledger .credit)) 13 0) e .0)
+pub places-left : (ledger : Ledger) → lastRefusal ledger ≡ 0 → ledger .count ≤ capacity
+places-left ledger e = leb-true (ledger .count) capacity (passes (itemsAllowed (ledger .count)) 11 (unless (creditAllowed (ledger .credit)) 13 0) e .0)
 
 pub concluded-accepted : (a : Account) (w : Work) → lastRefusal (w .account .ledger) ≡ 0 → concluded a w ≡ accepted w
 concluded-accepted a w e = rw (eq-eqb (lastRefusal (w .account .ledger)) 0 e) refl
@@ -26,28 +26,16 @@ concluded-accepted a w e = rw (eq-eqb (lastRefusal (w .account .ledger)) 0 e) re
 pub concluded-declined : (a : Account) (w : Work) (n : ℕ) → n ≡ lastRefusal (w .account .ledger) → (n ≡ 0 → ⊥) → concluded a w ≡ declined a n
 concluded-declined a w n e some = rw (← e, ne-eqb n 0 some) refl
 
--- What is concluded with an answer is concluded with what that answer is.
-abbrev pub Concludes : Account → Account → Outcome → Answer → Type 0
-Concludes before after r answer =
-    (draft : Draft answer) → r ≡ concluded before (record { account = after; estimated = answer .estimated; volumes = draft .volumes; net = answer .net; interest = answer .interest })
-
-pub concludes-with : (before after made : Account) (r : Outcome) (answer draft : Answer) → after ≡ made → answer ≡ draft → Concludes before after r answer → Concludes before made r draft
-concludes-with before after made r answer draft e f c = subst (λ x. Concludes before x r draft) e (subst (Concludes before after r) f c)
-
--- What is a draft is so under another name.
-pub drafted : {answer draft : Answer} → answer ≡ draft → Draft draft → Draft answer
-drafted e d = subst Draft (sym e) d
-
 -- 41, then 1 to 11.
 pub outcome-not-whole : (a : Account) (call : Call) → whole a ≡ false → outcome a call ≡ declined a 41
 unfolding outcome refusal
 outcome-not-whole a call e = rw e refl
 
 module _ (a : Account) (call : Call) (w : whole a ≡ true) where
-  pub outcome-declined : (n : ℕ) → n ≡ firstRefusal a call → (n ≡ 0 → ⊥) → outcome a call ≡ declined a n
+  pub outcome-declined : (n : ℕ) → n ≡ firstRefusal (headOf a) call → (n ≡ 0 → ⊥) → outcome a call ≡ declined a n
   unfolding outcome refusal
   outcome-declined n e some = rw (w, ← e, lt-ltb 0 n (omega (arith, some)), ne-eqb n 0 some) refl
 
-  pub outcome-concluded : firstRefusal a call ≡ 0 → outcome a call ≡ concluded a (work a call)
+  pub outcome-concluded : firstRefusal (headOf a) call ≡ 0 → outcome a call ≡ concluded a (work a call)
   unfolding outcome refusal
   outcome-concluded e = rw (w, e) refl

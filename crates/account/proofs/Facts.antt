@@ -9,102 +9,84 @@ use lib.Dec.{leb, eqb}
 use borrow.Author.Tests.{leb-true, le-leb, ltb-true, lt-ltb, eqb-true, eq-eqb}
 use Rattle.lists.specs.Every.{every, Every}
 use Rattle.lists.proofs.Every.{every-true, true-every, every-map}
-use Rattle.tariff.specs.declared.Fuel.{Fuel}
-use Rattle.tariff.specs.Fuel.{WithinFuel}
 use Rattle.meter.specs.declared.Estimate.{Estimate}
 use Rattle.meter.specs.Dial.{span, Digits}
 use Rattle.ledger.specs.declared.Item.{Item}
 use Rattle.ledger.specs.declared.Ledger.{Ledger}
+use Rattle.ledger.specs.Limits.{lastCallDay, capacity, mostPrice, mostInterest, mostCredit}
 use Rattle.ledger.specs.Interest.{isPrice}
 use Rattle.ledger.specs.Posting.{standing}
-use Rattle.account.specs.declared.Status.{Status}
-use Rattle.account.specs.declared.Status.the-variants.{New, Supplied, Stopped, Cancelled}
+use Rattle.plan.specs.declared.Status.{Status}
+use Rattle.plan.specs.declared.Status.the-variants.{New, Supplied, Stopped, Cancelled}
 use Rattle.account.specs.declared.Account.{Account}
-use Rattle.account.specs.Limits.{within, priceAllowed, fuelAllowed, dayAllowed, digitsAllowed, onDial, volumeAllowed, missesAllowed, itemsAllowed, creditAllowed}
-use Rattle.account.specs.Closing.{startOf}
-use Rattle.account.specs.Calls.{standingEstimates, isCancelled}
+use Rattle.plan.specs.Limits.{mostDays, mostCharge, mostVolume, mostMisses, within, fuelAllowed, dayAllowed, digitsAllowed, onDial, volumeAllowed, missesAllowed}
+use Rattle.plan.specs.Statuses.{isNew, isSupplied, isStopped, isCancelled, startOf}
+use Rattle.plan.specs.Plans.{EstimateBounds}
+use Rattle.plan.proofs.Tests.{and-left, and-right, and-intro, within-low, within-high, within-intro, either-zero, zero-either}
+use Rattle.account.specs.Limits.{lastDueDay, itemsAllowed, creditAllowed}
+use Rattle.account.specs.Calls.{standingEstimates}
 use Rattle.account.specs.Whole.{wholeEstimate, wholeItem, wholeLedger, wholeMeter, wholeParts, asMade, wholeStatus, whole}
-use Rattle.account.specs.Refusals.{isNew, isSupplied, isStopped}
 use Rattle.account.proofs.Made.{Made, made-facts}
-use Rattle.account.proofs.Tests.{and-left, and-right, and-intro, within-low, within-high, within-intro, either-zero, zero-either}
 
-pub fuel-within : (fuel : Fuel) → fuelAllowed fuel ≡ true → WithinFuel fuel
-fuel-within fuel e =
-    record {
-      lng-within = price (fuel .lng) (and-left (priceAllowed (fuel .lng)) (priceAllowed (fuel .propane)) e);
-      propane-within = price (fuel .propane) (and-right (priceAllowed (fuel .lng)) (priceAllowed (fuel .propane)) e);
-    }
-  where
-    price : (n : ℕ) → priceAllowed n ≡ true → n ≤ 300000
-    price n t = leb-true n 300000 (and-left (leb n 300000) (eqb (n % 10) 0) t)
-
--- An estimate.
-pub record EstimateFacts (estimate : Estimate) : Type 0 where
-  pub days-least : 1 ≤ estimate .days
-  pub days-most : estimate .days ≤ 36495
-  pub fuel-allowed : fuelAllowed (estimate .fuel) ≡ true
-  pub volume-most : estimate .volume ≤ 99999
-  pub charged-most : estimate .charged ≤ 100000000
-
-pub estimate-facts : (estimate : Estimate) → wholeEstimate estimate ≡ true → EstimateFacts estimate
+pub estimate-facts : (estimate : Estimate) → wholeEstimate estimate ≡ true → EstimateBounds estimate
 unfolding wholeEstimate
 estimate-facts estimate e =
-    let days = within 1 36495 (estimate .days) in
+    let days = within 1 mostDays (estimate .days) in
     let fuel = fuelAllowed (estimate .fuel) in
     let volume = volumeAllowed (estimate .volume) in
-    let three = and-left (days && fuel && volume) (leb (estimate .charged) 100000000) e in
+    let three = and-left (days && fuel && volume) (leb (estimate .charged) mostCharge) e in
     let two = and-left (days && fuel) volume three in
     record {
-      days-least = within-low 1 36495 (estimate .days) (and-left days fuel two);
-      days-most = within-high 1 36495 (estimate .days) (and-left days fuel two);
+      days-least = within-low 1 mostDays (estimate .days) (and-left days fuel two);
+      days-most = within-high 1 mostDays (estimate .days) (and-left days fuel two);
       fuel-allowed = and-right days fuel two;
-      volume-most = leb-true (estimate .volume) 99999 (and-right (days && fuel) volume three);
-      charged-most = leb-true (estimate .charged) 100000000 (and-right (days && fuel && volume) (leb (estimate .charged) 100000000) e);
+      volume-most = leb-true (estimate .volume) mostVolume (and-right (days && fuel) volume three);
+      charged-most = leb-true (estimate .charged) mostCharge (and-right (days && fuel && volume) (leb (estimate .charged) mostCharge) e);
     }
 
-pub estimate-whole : (estimate : Estimate) → EstimateFacts estimate → wholeEstimate estimate ≡ true
+pub estimate-whole : (estimate : Estimate) → EstimateBounds estimate → wholeEstimate estimate ≡ true
 unfolding wholeEstimate
 estimate-whole estimate w =
     and-intro
     (and-intro
-    (and-intro (within-intro 1 36495 (estimate .days) (w .days-least) (w .days-most)) (w .fuel-allowed))
-    (le-leb (estimate .volume) 99999 (w .volume-most)))
-    (le-leb (estimate .charged) 100000000 (w .charged-most))
+    (and-intro (within-intro 1 mostDays (estimate .days) (w .days-least) (w .days-most)) (w .fuel-allowed))
+    (le-leb (estimate .volume) mostVolume (w .volume-most)))
+    (le-leb (estimate .charged) mostCharge (w .charged-most))
 
-pub estimates-facts : (estimates : List Estimate) → every wholeEstimate estimates ≡ true → Every EstimateFacts estimates
-estimates-facts estimates e = every-map (λ x. wholeEstimate x ≡ true) EstimateFacts estimate-facts estimates (every-true wholeEstimate estimates e)
+pub estimates-facts : (estimates : List Estimate) → every wholeEstimate estimates ≡ true → Every EstimateBounds estimates
+estimates-facts estimates e = every-map (λ x. wholeEstimate x ≡ true) EstimateBounds estimate-facts estimates (every-true wholeEstimate estimates e)
 
-pub estimates-whole : (estimates : List Estimate) → Every EstimateFacts estimates → every wholeEstimate estimates ≡ true
-estimates-whole estimates w = true-every wholeEstimate estimates (every-map EstimateFacts (λ x. wholeEstimate x ≡ true) estimate-whole estimates w)
+pub estimates-whole : (estimates : List Estimate) → Every EstimateBounds estimates → every wholeEstimate estimates ≡ true
+estimates-whole estimates w = true-every wholeEstimate estimates (every-map EstimateBounds (λ x. wholeEstimate x ≡ true) estimate-whole estimates w)
 
 -- An item.
 pub record ItemFacts (latest : ℕ) (item : Item) : Type 0 where
   pub unpaid-least : 1 ≤ item .unpaid
   pub unpaid-most : item .unpaid ≤ item .amount
-  pub price-most : isPrice (item .kind) ≡ true → item .amount ≤ 1000000000
-  pub amount-most : item .amount ≤ 1000000000000
+  pub price-most : isPrice (item .kind) ≡ true → item .amount ≤ mostPrice
+  pub amount-most : item .amount ≤ mostInterest
   pub obligation-most : item .obligation ≤ latest
-  pub due-most : item .due ≤ 36524
+  pub due-most : item .due ≤ lastDueDay
 
 pub item-facts : (latest : ℕ) (item : Item) → wholeItem latest item ≡ true → ItemFacts latest item
 unfolding wholeItem
 item-facts latest item e =
     let unpaid = within 1 (item .amount) (item .unpaid) in
-    let amount = leb (item .amount) (cond (isPrice (item .kind)) 1000000000 1000000000000) in
+    let amount = leb (item .amount) (cond (isPrice (item .kind)) mostPrice mostInterest) in
     let obligation = leb (item .obligation) latest in
-    let three = and-left (unpaid && amount && obligation) (leb (item .due) 36524) e in
+    let three = and-left (unpaid && amount && obligation) (leb (item .due) lastDueDay) e in
     let two = and-left (unpaid && amount) obligation three in
-    let bound = leb-true (item .amount) (cond (isPrice (item .kind)) 1000000000 1000000000000) (and-right unpaid amount two) in
+    let bound = leb-true (item .amount) (cond (isPrice (item .kind)) mostPrice mostInterest) (and-right unpaid amount two) in
     record {
       unpaid-least = within-low 1 (item .amount) (item .unpaid) (and-left unpaid amount two);
       unpaid-most = within-high 1 (item .amount) (item .unpaid) (and-left unpaid amount two);
       price-most = λ p. rw p at bound;
       amount-most = either (isPrice (item .kind)) bound;
       obligation-most = leb-true (item .obligation) latest (and-right (unpaid && amount) obligation three);
-      due-most = leb-true (item .due) 36524 (and-right (unpaid && amount && obligation) (leb (item .due) 36524) e);
+      due-most = leb-true (item .due) lastDueDay (and-right (unpaid && amount && obligation) (leb (item .due) lastDueDay) e);
     }
   where
-    either : (b : Bool) → item .amount ≤ cond b 1000000000 1000000000000 → item .amount ≤ 1000000000000
+    either : (b : Bool) → item .amount ≤ cond b mostPrice mostInterest → item .amount ≤ mostInterest
     either true h = omega arith
     either false h = h
 
@@ -115,18 +97,18 @@ item-whole latest item w =
     (and-intro
     (and-intro (within-intro 1 (item .amount) (item .unpaid) (w .unpaid-least) (w .unpaid-most)) (amount (isPrice (item .kind)) refl))
     (le-leb (item .obligation) latest (w .obligation-most)))
-    (le-leb (item .due) 36524 (w .due-most))
+    (le-leb (item .due) lastDueDay (w .due-most))
   where
-    amount : (b : Bool) → isPrice (item .kind) ≡ b → leb (item .amount) (cond (isPrice (item .kind)) 1000000000 1000000000000) ≡ true
-    amount true e = rw e (le-leb (item .amount) 1000000000 (w .price-most e))
-    amount false e = rw e (le-leb (item .amount) 1000000000000 (w .amount-most))
+    amount : (b : Bool) → isPrice (item .kind) ≡ b → leb (item .amount) (cond (isPrice (item .kind)) mostPrice mostInterest) ≡ true
+    amount true e = rw e (le-leb (item .amount) mostPrice (w .price-most e))
+    amount false e = rw e (le-leb (item .amount) mostInterest (w .amount-most))
 
 -- The ledger.
 pub record LedgerFacts (latest : ℕ) (ledger : Ledger) : Type 0 where
-  pub count-most : ledger .count ≤ 72
+  pub count-most : ledger .count ≤ capacity
   pub items : Every (ItemFacts latest) (standing ledger .open-items)
-  pub held-most : ledger .held ≤ 1000000000000
-  pub credit-most : ledger .credit ≤ 999999999
+  pub held-most : ledger .held ≤ mostInterest
+  pub credit-most : ledger .credit ≤ mostCredit
   pub credit-or-none : (ledger .credit ≡ 0) ⊎ (ledger .count ≡ 0)
 
 pub ledger-facts : (latest : ℕ) (ledger : Ledger) → wholeLedger latest ledger ≡ true → LedgerFacts latest ledger
@@ -134,17 +116,17 @@ unfolding wholeLedger
 ledger-facts latest ledger e =
     let count = itemsAllowed (ledger .count) in
     let items = every (wholeItem latest) (standing ledger .open-items) in
-    let held = leb (ledger .held) 1000000000000 in
+    let held = leb (ledger .held) mostInterest in
     let credit = creditAllowed (ledger .credit) in
     let free = eqb (ledger .credit) 0 || eqb (ledger .count) 0 in
     let four = and-left (count && items && held && credit) free e in
     let three = and-left (count && items && held) credit four in
     let two = and-left (count && items) held three in
     record {
-      count-most = leb-true (ledger .count) 72 (and-left count items two);
+      count-most = leb-true (ledger .count) capacity (and-left count items two);
       items = every-map (λ item. wholeItem latest item ≡ true) (ItemFacts latest) (item-facts latest) (standing ledger .open-items) (every-true (wholeItem latest) (standing ledger .open-items) (and-right count items two));
-      held-most = leb-true (ledger .held) 1000000000000 (and-right (count && items) held three);
-      credit-most = leb-true (ledger .credit) 999999999 (and-right (count && items && held) credit four);
+      held-most = leb-true (ledger .held) mostInterest (and-right (count && items) held three);
+      credit-most = leb-true (ledger .credit) mostCredit (and-right (count && items && held) credit four);
       credit-or-none = either-zero (ledger .credit) (ledger .count) (and-right (count && items && held && credit) free e);
     }
 
@@ -155,30 +137,30 @@ ledger-whole latest ledger w =
     (and-intro
     (and-intro
     (and-intro
-    (le-leb (ledger .count) 72 (w .count-most))
+    (le-leb (ledger .count) capacity (w .count-most))
     (true-every (wholeItem latest) (standing ledger .open-items) (every-map (ItemFacts latest) (λ item. wholeItem latest item ≡ true) (item-whole latest) (standing ledger .open-items) (w .items))))
-    (le-leb (ledger .held) 1000000000000 (w .held-most)))
-    (le-leb (ledger .credit) 999999999 (w .credit-most)))
+    (le-leb (ledger .held) mostInterest (w .held-most)))
+    (le-leb (ledger .credit) mostCredit (w .credit-most)))
     (zero-either (ledger .credit) (ledger .count) (w .credit-or-none))
 
 -- The meter and what was estimated.
 pub record MeterFacts (a : Account) : Type 0 where
-  pub latest-most : a .latest ≤ 36494
-  pub digits-within : Digits (a .digits)
-  pub dial-within : a .dial < span (a .digits)
-  pub pool-most : a .pool ≤ 99999
-  pub previous-most : a .previous ≤ 99999
-  pub misses-most : a .estimates .count ≤ 6
-  pub estimates : Every EstimateFacts (standingEstimates a)
+  pub latest-most : a .latest ≤ lastCallDay
+  pub digits-within : Digits (a .meter .digits)
+  pub dial-within : a .meter .dial < span (a .meter .digits)
+  pub pool-most : a .meter .pool ≤ mostVolume
+  pub previous-most : a .meter .previous ≤ mostVolume
+  pub misses-most : a .estimates .count ≤ mostMisses
+  pub estimates : Every EstimateBounds (standingEstimates a)
 
 pub meter-facts : (a : Account) → wholeMeter a ≡ true → MeterFacts a
 unfolding wholeMeter
 meter-facts a e =
     let day = dayAllowed (a .latest) in
-    let digits = digitsAllowed (a .digits) in
-    let dial = onDial (a .digits) (a .dial) in
-    let pool = volumeAllowed (a .pool) in
-    let previous = volumeAllowed (a .previous) in
+    let digits = digitsAllowed (a .meter .digits) in
+    let dial = onDial (a .meter .digits) (a .meter .dial) in
+    let pool = volumeAllowed (a .meter .pool) in
+    let previous = volumeAllowed (a .meter .previous) in
     let misses = missesAllowed (a .estimates .count) in
     let estimates = every wholeEstimate (standingEstimates a) in
     let six = and-left (day && digits && dial && pool && previous && misses) estimates e in
@@ -187,12 +169,12 @@ meter-facts a e =
     let three = and-left (day && digits && dial) pool four in
     let two = and-left (day && digits) dial three in
     record {
-      latest-most = leb-true (a .latest) 36494 (and-left day digits two);
-      digits-within = (within-low 4 5 (a .digits) (and-right day digits two), within-high 4 5 (a .digits) (and-right day digits two));
-      dial-within = ltb-true (a .dial) (span (a .digits)) (and-right (day && digits) dial three);
-      pool-most = leb-true (a .pool) 99999 (and-right (day && digits && dial) pool four);
-      previous-most = leb-true (a .previous) 99999 (and-right (day && digits && dial && pool) previous five);
-      misses-most = leb-true (a .estimates .count) 6 (and-right (day && digits && dial && pool && previous) misses six);
+      latest-most = leb-true (a .latest) lastCallDay (and-left day digits two);
+      digits-within = (within-low 4 5 (a .meter .digits) (and-right day digits two), within-high 4 5 (a .meter .digits) (and-right day digits two));
+      dial-within = ltb-true (a .meter .dial) (span (a .meter .digits)) (and-right (day && digits) dial three);
+      pool-most = leb-true (a .meter .pool) mostVolume (and-right (day && digits && dial) pool four);
+      previous-most = leb-true (a .meter .previous) mostVolume (and-right (day && digits && dial && pool) previous five);
+      misses-most = leb-true (a .estimates .count) mostMisses (and-right (day && digits && dial && pool && previous) misses six);
       estimates = estimates-facts (standingEstimates a) (and-right (day && digits && dial && pool && previous && misses) estimates e);
     }
 
@@ -204,11 +186,11 @@ meter-whole a w =
     (and-intro
     (and-intro
     (and-intro
-    (and-intro (le-leb (a .latest) 36494 (w .latest-most)) (within-intro 4 5 (a .digits) (w .digits-within .0) (w .digits-within .1)))
-    (lt-ltb (a .dial) (span (a .digits)) (w .dial-within)))
-    (le-leb (a .pool) 99999 (w .pool-most)))
-    (le-leb (a .previous) 99999 (w .previous-most)))
-    (le-leb (a .estimates .count) 6 (w .misses-most)))
+    (and-intro (le-leb (a .latest) lastCallDay (w .latest-most)) (within-intro 4 5 (a .meter .digits) (w .digits-within .0) (w .digits-within .1)))
+    (lt-ltb (a .meter .dial) (span (a .meter .digits)) (w .dial-within)))
+    (le-leb (a .meter .pool) mostVolume (w .pool-most)))
+    (le-leb (a .meter .previous) mostVolume (w .previous-most)))
+    (le-leb (a .estimates .count) mostMisses (w .misses-most)))
     (estimates-whole (standingEstimates a) (w .estimates))
 
 -- An account that is not new.

@@ -12,11 +12,11 @@ use Rattle.ledger.specs.declared.Kind.the-variants.{Interest, Price}
 use Rattle.ledger.specs.declared.Item.{Item}
 use Rattle.ledger.specs.declared.Ledger.{Ledger}
 use Rattle.ledger.specs.Interest.{isPrice}
-use Rattle.account.specs.declared.Status.the-variants.{New}
+use Rattle.plan.specs.declared.Status.the-variants.{New}
 use Rattle.account.specs.declared.Account.{Account}
 use Rattle.account.specs.Calls.{newAccount}
 use Rattle.account.specs.Whole.{agree, sameEstimate, sameItem, madeMeter, madeEstimates, madeLedger, asMade, wholeStatus, whole}
-use Rattle.account.proofs.Tests.{and-left, and-right}
+use Rattle.plan.proofs.Tests.{and-left, and-right}
 
 -- What agrees is equal.
 marks-equal : (one other : Bool) → agree one other ≡ true → one ≡ other
@@ -101,10 +101,7 @@ made-ledger ledger e =
 -- What a new account holds, its status aside.
 pub record Made (a : Account) : Type 0 where
   pub latest-none : a .latest ≡ 0
-  pub digits-none : a .digits ≡ 0
-  pub dial-none : a .dial ≡ 0
-  pub pool-none : a .pool ≡ 0
-  pub previous-none : a .previous ≡ 0
+  pub meter-none : a .meter ≡ newAccount .meter
   pub estimates-none : a .estimates ≡ newAccount .estimates
   pub ledger-none : a .ledger ≡ newAccount .ledger
 
@@ -112,22 +109,23 @@ pub made-facts : (a : Account) → asMade a ≡ true → Made a
 unfolding asMade madeMeter
 made-facts a e =
     let latest = eqb (a .latest) 0 in
-    let digits = eqb (a .digits) 0 in
-    let dial = eqb (a .dial) 0 in
-    let pool = eqb (a .pool) 0 in
-    let previous = eqb (a .previous) 0 in
+    let digits = eqb (a .meter .digits) 0 in
+    let dial = eqb (a .meter .dial) 0 in
+    let pool = eqb (a .meter .pool) 0 in
+    let previous = eqb (a .meter .previous) 0 in
     let estimates = madeEstimates (a .estimates) in
     let parts = and-left (madeMeter a && estimates) (madeLedger (a .ledger)) e in
     let five = and-left (madeMeter a) estimates parts in
     let four = and-left (latest && digits && dial && pool) previous five in
     let three = and-left (latest && digits && dial) pool four in
     let two = and-left (latest && digits) dial three in
+    let digits-is = eqb-true (a .meter .digits) 0 (and-right latest digits two) in
+    let dial-is = eqb-true (a .meter .dial) 0 (and-right (latest && digits) dial three) in
+    let pool-is = eqb-true (a .meter .pool) 0 (and-right (latest && digits && dial) pool four) in
+    let previous-is = eqb-true (a .meter .previous) 0 (and-right (latest && digits && dial && pool) previous five) in
     record {
       latest-none = eqb-true (a .latest) 0 (and-left latest digits two);
-      digits-none = eqb-true (a .digits) 0 (and-right latest digits two);
-      dial-none = eqb-true (a .dial) 0 (and-right (latest && digits) dial three);
-      pool-none = eqb-true (a .pool) 0 (and-right (latest && digits && dial) pool four);
-      previous-none = eqb-true (a .previous) 0 (and-right (latest && digits && dial && pool) previous five);
+      meter-none = λ i. record { digits = digits-is i; dial = dial-is i; pool = pool-is i; previous = previous-is i };
       estimates-none = made-estimates (a .estimates) (and-right (madeMeter a) estimates parts);
       ledger-none = made-ledger (a .ledger) (and-right (madeMeter a && estimates) (madeLedger (a .ledger)) e);
     }
@@ -144,10 +142,7 @@ whole-new a e w =
     λ i. record {
       status = e i;
       latest = made .latest-none i;
-      digits = made .digits-none i;
-      dial = made .dial-none i;
-      pool = made .pool-none i;
-      previous = made .previous-none i;
+      meter = made .meter-none i;
       estimates = made .estimates-none i;
       ledger = made .ledger-none i;
     }

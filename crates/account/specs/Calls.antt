@@ -6,30 +6,43 @@ use lib.IntN.{ℤ, pos}
 use Rattle.tariff.specs.declared.Fuel.{Fuel}
 use Rattle.tariff.specs.Price.{priceOf}
 use Rattle.meter.specs.declared.Estimate.{Estimate}
-use Rattle.meter.specs.Dial.{advance}
+use Rattle.meter.specs.declared.Meter.{Meter}
+use Rattle.meter.specs.Metering.{poolTo, setOn, exchangedFor, readAt, missedAt}
 use Rattle.meter.specs.Sharing as Sharing
 use Rattle.meter.specs.Sharing.{finalVolumes}
 use Rattle.ledger.specs.declared.Ledger.{Ledger}
 use Rattle.ledger.specs.Posting.{Standing, standing, stored, closed, paid, heldPosted}
-use Rattle.account.specs.declared.Status.{Status}
-use Rattle.account.specs.declared.Status.the-variants.{New, Supplied, Stopped, Cancelled}
+use Rattle.plan.specs.declared.Status.{Status}
+use Rattle.plan.specs.declared.Status.the-variants.{New, Supplied, Stopped, Cancelled}
+use Rattle.plan.specs.declared.Head.{Head}
+use Rattle.plan.specs.declared.Call.{Call}
+use Rattle.plan.specs.declared.Call.the-variants.{Opening, Reading, Missed, Absent, Exchange, Disconnection, Reconnection, Cancellation, Payment, StoppedCancellation}
+use Rattle.plan.specs.Statuses.{isCancelled, startOf, stopOf}
+use Rattle.plan.specs.Closing.{daysOf, dayAfter, resumedStart, ofThisPeriod, netOf, storedEstimates}
 use Rattle.account.specs.declared.Account.{Account}
-use Rattle.account.specs.declared.Call.{Call}
-use Rattle.account.specs.declared.Call.the-variants.{Opening, Reading, Missed, Absent, Exchange, Disconnection, Reconnection, Cancellation, Payment, StoppedCancellation}
-use Rattle.account.specs.Closing.{startOf, stopOf, daysOf, dayAfter, resumedStart, ofThisPeriod, netOf, storedEstimates}
 
 abbrev pub newAccount : Account
 newAccount =
     record {
       status = New;
       latest = 0;
-      digits = 0;
-      dial = 0;
-      pool = 0;
-      previous = 0;
+      meter = record { digits = 0; dial = 0; pool = 0; previous = 0 };
       estimates = storedEstimates [];
       ledger = stored (record { open-items = []; credit = 0; held = 0 });
     }
+
+-- The numbers of an account beside its estimates and its ledger.
+abbrev pub headOf : Account → Head
+headOf a = record { status = a .status; latest = a .latest; meter = a .meter; standing = a .estimates .count }
+
+-- The account with another meter, or another ledger, on this day.
+abbrev pub withMeter : Account → ℕ → Status → Meter → Account
+withMeter a day status meter =
+    record { status = status; latest = day; meter = meter; estimates = a .estimates; ledger = a .ledger }
+
+abbrev pub withLedger : Account → ℕ → Status → Ledger → Account
+withLedger a day status ledger =
+    record { status = status; latest = day; meter = a .meter; estimates = a .estimates; ledger = ledger }
 
 -- What a call makes: the account after it, the estimated volume, the volumes made final, the net, and interest posted.
 pub record Work : Type 0 where
@@ -46,20 +59,16 @@ quiet account = record { account = account; estimated = 0; volumes = []; net = p
 abbrev pub standingEstimates : Account → List Estimate
 standingEstimates a = Sharing.standing (a .estimates)
 
--- The pool with the advance to a reading of the dial under supply.
-abbrev pub poolTo : Account → ℕ → ℕ
-poolTo a reading = a .pool + advance (a .digits) (a .dial) reading
-
 -- 02, 06 and 08 alike: what a reading that closes the period works out.
 module _ (a : Account) (day reading : ℕ) (fuel : Fuel) where
   abbrev pub madeFinal : List ℕ
-  madeFinal = finalVolumes (standingEstimates a) (poolTo a reading)
+  madeFinal = finalVolumes (standingEstimates a) (poolTo (a .meter) reading)
 
   abbrev pub closingPrice : ℕ
   closingPrice = priceOf (daysOf (startOf (a .status)) day) fuel (ofThisPeriod madeFinal)
 
   abbrev pub closingNet : ℤ
-  closingNet = netOf (standingEstimates a) (poolTo a reading) madeFinal closingPrice
+  closingNet = netOf (standingEstimates a) (poolTo (a .meter) reading) madeFinal closingPrice
 
   abbrev pub closedLedger : Standing
   closedLedger = closed day closingNet (standing (a .ledger))
@@ -70,10 +79,7 @@ module _ (a : Account) (day reading : ℕ) (fuel : Fuel) where
       record {
         status = status;
         latest = day;
-        digits = a .digits;
-        dial = reading;
-        pool = 0;
-        previous = ofThisPeriod madeFinal;
+        meter = readAt (a .meter) reading (ofThisPeriod madeFinal);
         estimates = storedEstimates [];
         ledger = ledger;
       }
@@ -119,10 +125,7 @@ module _ (a : Account) (day : ℕ) (fuel : Fuel) where
             record {
               status = Supplied (dayAfter day);
               latest = day;
-              digits = a .digits;
-              dial = a .dial;
-              pool = a .pool;
-              previous = volume;
+              meter = missedAt (a .meter) volume;
               estimates = storedEstimates (standingEstimates a ++ (estimateOf absent volume ∷ []));
               ledger = stored (closed day (pos (estimateOf absent volume .charged)) (standing (a .ledger)));
             };
@@ -132,57 +135,15 @@ module _ (a : Account) (day : ℕ) (fuel : Fuel) where
         interest = a .ledger .held;
       }
 
--- 01 and 07 set the dial and begin a period. What the dial turned while stopped is not billed (H).
+-- 01 and 07 set the dial and begin a period.
 abbrev pub begun : Account → ℕ → ℕ → ℕ → ℕ → Work
-begun a day reading digits start =
-    quiet
-    (record {
-      status = Supplied start;
-      latest = day;
-      digits = digits;
-      dial = reading;
-      pool = a .pool;
-      previous = a .previous;
-      estimates = a .estimates;
-      ledger = a .ledger;
-    })
+begun a day reading digits start = quiet (withMeter a day (Supplied start) (setOn (a .meter) digits reading))
 
 -- 05 adds the old meter's advance to the pool and goes on with the new meter. It closes no period.
 abbrev pub exchanged : Account → ℕ → ℕ → ℕ → ℕ → Work
-exchanged a day old new digits =
-    quiet
-    (record {
-      status = a .status;
-      latest = day;
-      digits = digits;
-      dial = new;
-      pool = poolTo a old;
-      previous = a .previous;
-      estimates = a .estimates;
-      ledger = a .ledger;
-    })
-
--- The account with another ledger, and another status.
-abbrev pub withLedger : Account → ℕ → Status → Ledger → Account
-withLedger a day status ledger =
-    record {
-      status = status;
-      latest = day;
-      digits = a .digits;
-      dial = a .dial;
-      pool = a .pool;
-      previous = a .previous;
-      estimates = a .estimates;
-      ledger = ledger;
-    }
+exchanged a day old new digits = quiet (withMeter a day (a .status) (exchangedFor (a .meter) old new digits))
 
 -- A payment: what it brings in interest is held, and on a cancelled account posted at once as one last item.
-abbrev pub isCancelled : Status → Bool
-isCancelled New = false
-isCancelled (Supplied start) = false
-isCancelled (Stopped stop) = false
-isCancelled Cancelled = true
-
 module _ (a : Account) (day yen : ℕ) where
   abbrev pub paidLedger : Standing
   paidLedger = paid day yen (standing (a .ledger))
@@ -213,7 +174,7 @@ stoppedCancellation a day =
 unfoldable pub work : Account → Call → Work
 work a (Opening day reading digits) = begun a day reading digits day
 work a (Reading day reading fuel) = read a day reading fuel (Supplied (dayAfter day))
-work a (Missed day fuel) = missed a day fuel false (a .previous)
+work a (Missed day fuel) = missed a day fuel false (a .meter .previous)
 work a (Absent day fuel) = missed a day fuel true 0
 work a (Exchange day old new digits) = exchanged a day old new digits
 work a (Disconnection day reading fuel) = read a day reading fuel (Stopped day)

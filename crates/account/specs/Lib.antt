@@ -1,8 +1,7 @@
 -- A gas account and its calls.
 pub mod Limits
-pub mod Closing
 pub mod Calls
 pub mod Whole
 pub mod Refusals
 pub mod Outcomes
-pub mod LightCalls
+pub mod Steps

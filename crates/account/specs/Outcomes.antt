@@ -11,15 +11,9 @@ use Rattle.ledger.specs.Posting.{standing}
 use Rattle.account.specs.declared.Account.{Account}
 use Rattle.account.specs.declared.Answer.{Answer}
 use Rattle.account.specs.declared.Outcome.{Outcome}
-use Rattle.account.specs.declared.Call.{Call}
+use Rattle.plan.specs.declared.Call.{Call}
 use Rattle.account.specs.Calls.{Work, work}
 use Rattle.account.specs.Refusals.{lastRefusal, refusal}
-
--- What a call that was not declined so far is to answer, and the volumes that it shows; what stands on the ledger is still to come.
-pub record Draft (answer : Answer) : Type 0 where
-  pub number-none : answer .number ≡ 0
-  pub volumes : List ℕ
-  pub volumes-are : answer .volumes ≡ volumesOf volumes
 
 -- A declined call: its number, every other field 0, the account as it was.
 abbrev pub declined : Account → ℕ → Outcome

@@ -9,10 +9,12 @@ use Rattle.ledger.specs.declared.Item.{Item}
 use Rattle.ledger.specs.declared.Ledger.{Ledger}
 use Rattle.ledger.specs.Interest.{isPrice}
 use Rattle.ledger.specs.Posting.{standing}
-use Rattle.account.specs.declared.Status.{Status}
-use Rattle.account.specs.declared.Status.the-variants.{New, Supplied, Stopped, Cancelled}
+use Rattle.plan.specs.declared.Status.{Status}
+use Rattle.plan.specs.declared.Status.the-variants.{New, Supplied, Stopped, Cancelled}
 use Rattle.account.specs.declared.Account.{Account}
-use Rattle.account.specs.Limits.{within, dayAllowed, digitsAllowed, onDial, fuelAllowed, missesAllowed, volumeAllowed, itemsAllowed, creditAllowed}
+use Rattle.ledger.specs.Limits.{mostPrice, mostInterest}
+use Rattle.plan.specs.Limits.{mostDays, mostCharge, within, dayAllowed, digitsAllowed, onDial, fuelAllowed, missesAllowed, volumeAllowed}
+use Rattle.account.specs.Limits.{lastDueDay, itemsAllowed, creditAllowed}
 use Rattle.account.specs.Calls.{newAccount, standingEstimates}
 
 -- Two marks that agree, and two places of an array, field for field.
@@ -41,10 +43,10 @@ sameItem one other =
 unfoldable pub madeMeter : Account → Bool
 madeMeter a =
     eqb (a .latest) (newAccount .latest) &&
-    eqb (a .digits) (newAccount .digits) &&
-    eqb (a .dial) (newAccount .dial) &&
-    eqb (a .pool) (newAccount .pool) &&
-    eqb (a .previous) (newAccount .previous)
+    eqb (a .meter .digits) (newAccount .meter .digits) &&
+    eqb (a .meter .dial) (newAccount .meter .dial) &&
+    eqb (a .meter .pool) (newAccount .meter .pool) &&
+    eqb (a .meter .previous) (newAccount .meter .previous)
 
 unfoldable pub madeEstimates : Estimates → Bool
 madeEstimates estimates =
@@ -64,25 +66,25 @@ asMade a = madeMeter a && madeEstimates (a .estimates) && madeLedger (a .ledger)
 -- An estimate: 1 to 36,495 days, fuel as number 6 allows, volume at most 99,999, charge at most 10^8.
 unfoldable pub wholeEstimate : Estimate → Bool
 wholeEstimate estimate =
-    within 1 36495 (estimate .days) &&
+    within 1 mostDays (estimate .days) &&
     fuelAllowed (estimate .fuel) &&
     volumeAllowed (estimate .volume) &&
-    leb (estimate .charged) 100000000
+    leb (estimate .charged) mostCharge
 
 -- An item: 1 to its amount unpaid, price items at most 10^9, interest items at most 10^12, no obligation day past the latest day, no due day past 36,524.
 unfoldable pub wholeItem : ℕ → Item → Bool
 wholeItem latest item =
     within 1 (item .amount) (item .unpaid) &&
-    leb (item .amount) (cond (isPrice (item .kind)) 1000000000 1000000000000) &&
+    leb (item .amount) (cond (isPrice (item .kind)) mostPrice mostInterest) &&
     leb (item .obligation) latest &&
-    leb (item .due) 36524
+    leb (item .due) lastDueDay
 
 -- At most 72 items, interest held at most 10^12, credit as number 13 allows, and 0 while an item is open.
 unfoldable pub wholeLedger : ℕ → Ledger → Bool
 wholeLedger latest ledger =
     itemsAllowed (ledger .count) &&
     every (wholeItem latest) (standing ledger .open-items) &&
-    leb (ledger .held) 1000000000000 &&
+    leb (ledger .held) mostInterest &&
     creditAllowed (ledger .credit) &&
     (eqb (ledger .credit) 0 || eqb (ledger .count) 0)
 
@@ -90,10 +92,10 @@ wholeLedger latest ledger =
 unfoldable pub wholeMeter : Account → Bool
 wholeMeter a =
     dayAllowed (a .latest) &&
-    digitsAllowed (a .digits) &&
-    onDial (a .digits) (a .dial) &&
-    volumeAllowed (a .pool) &&
-    volumeAllowed (a .previous) &&
+    digitsAllowed (a .meter .digits) &&
+    onDial (a .meter .digits) (a .meter .dial) &&
+    volumeAllowed (a .meter .pool) &&
+    volumeAllowed (a .meter .previous) &&
     missesAllowed (a .estimates .count) &&
     every wholeEstimate (standingEstimates a)
 

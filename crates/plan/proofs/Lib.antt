@@ -4,3 +4,4 @@ pub mod Passed
 pub mod Nets
 pub mod Ready
 pub mod Planning
+pub mod Bounds

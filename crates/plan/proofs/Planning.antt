@@ -4,7 +4,8 @@ use mathlib.Core.Bool.{Bool, true, false, cond, false≢true}
 use mathlib.Core.List.{List, [], _∷_, _++_}
 use Prim.Native.Nat.{ℕ}
 use lib.Dec.{eqb}
-use borrow.Author.Tests.{eq-eqb, ne-eqb}
+use lib.ListN.{length}
+use borrow.Author.Tests.{eqb-true, eq-eqb, ne-eqb}
 use types.Run.{OneOf, miss}
 use denote.Enum.Declared.{tagOf}
 use Rattle.meter.specs.declared.Estimate.{Estimate}
@@ -84,6 +85,50 @@ module _ (h : Head) (estimates : List Estimate) where
   volumes-alone (Cancellation day reading fuel) none = ap (λ e. plannedVolumes h e (Cancellation day reading fuel)) (sym (none refl))
   volumes-alone (Payment day yen) none = refl
   volumes-alone (StoppedCancellation day) none = refl
+
+-- The number of a plan is the refusal's, and one that 1 to 11 let pass is the plan of its call.
+module _ (h : Head) (estimates : List Estimate) where
+  pub passed-number : (call : Call) → passedPlan h estimates call .number ≡ 0
+  unfolding passedPlan
+  passed-number (Opening day reading digits) = refl
+  passed-number (Reading day reading fuel) = refl
+  passed-number (Missed day fuel) = refl
+  passed-number (Absent day fuel) = refl
+  passed-number (Exchange day old new digits) = refl
+  passed-number (Disconnection day reading fuel) = refl
+  passed-number (Reconnection day reading digits) = refl
+  passed-number (Cancellation day reading fuel) = refl
+  passed-number (Payment day yen) = refl
+  passed-number (StoppedCancellation day) = refl
+
+  pub passed-count : (call : Call) → passedPlan h estimates call .count ≡ length (passedVolumes h estimates call)
+  unfolding passedPlan passedVolumes
+  passed-count (Opening day reading digits) = refl
+  passed-count (Reading day reading fuel) = refl
+  passed-count (Missed day fuel) = refl
+  passed-count (Absent day fuel) = refl
+  passed-count (Exchange day old new digits) = refl
+  passed-count (Disconnection day reading fuel) = refl
+  passed-count (Reconnection day reading digits) = refl
+  passed-count (Cancellation day reading fuel) = refl
+  passed-count (Payment day yen) = refl
+  passed-count (StoppedCancellation day) = refl
+
+  pub planned-number : (call : Call) → planned h estimates call .number ≡ firstRefusal h call
+  unfolding planned
+  planned-number call = go (eqb (firstRefusal h call) 0) refl
+    where
+      go : (b : Bool) → eqb (firstRefusal h call) 0 ≡ b → cond b (passedPlan h estimates call) (quietPlan (firstRefusal h call) h) .number ≡ firstRefusal h call
+      go true e = passed-number call ∙ sym (eqb-true (firstRefusal h call) 0 e)
+      go false e = refl
+
+  pub passed-plan : (call : Call) → firstRefusal h call ≡ 0 → planned h estimates call ≡ passedPlan h estimates call
+  unfolding planned
+  passed-plan call e = rw (eq-eqb (firstRefusal h call) 0 e) refl
+
+  pub passed-volumes : (call : Call) → firstRefusal h call ≡ 0 → plannedVolumes h estimates call ≡ passedVolumes h estimates call
+  unfolding plannedVolumes
+  passed-volumes call e = rw (eq-eqb (firstRefusal h call) 0 e) refl
 
 -- The arm of all calls that read no meter.
 abbrev others : List ℕ

@@ -9,10 +9,12 @@ use lib.ListN.{length, drop}
 use Rattle.tariff.specs.declared.Fuel.{Fuel}
 use Rattle.tariff.specs.Price.{priceOf}
 use Rattle.meter.specs.declared.Meter.{Meter}
+use Rattle.lists.specs.Every.{Every}
 use Rattle.meter.specs.declared.Estimate.{Estimate}
+use Rattle.meter.specs.declared.Estimates.{Estimates}
 use Rattle.meter.specs.Dial.{span, Digits}
 use Rattle.meter.specs.Metering.{poolTo, setOn, exchangedFor, readAt, missedAt}
-use Rattle.meter.specs.Sharing.{finalVolumes}
+use Rattle.meter.specs.Sharing.{standing, finalVolumes}
 use Rattle.ledger.specs.declared.Entry.{Entry}
 use Rattle.ledger.specs.Limits.{lastCallDay}
 use Rattle.ledger.specs.Posting.{chargeOf, creditOf}
@@ -29,7 +31,7 @@ use Rattle.plan.specs.declared.Figures.{Figures}
 use Rattle.plan.specs.declared.Plan.{Plan}
 use Rattle.plan.specs.Limits.{mostVolume, mostMisses, mostDays, mostCharge, fuelAllowed}
 use Rattle.plan.specs.Statuses.{isSupplied, isCancelled, startOf, stopOf}
-use Rattle.plan.specs.Closing.{daysOf, dayAfter, resumedStart, ofThisPeriod, netOf}
+use Rattle.plan.specs.Closing.{daysOf, dayAfter, resumedStart, ofThisPeriod, netOf, storedEstimates}
 use Rattle.plan.specs.Refusals.{firstRefusal}
 
 -- What is known of the head of every whole account. A meter is known once there is supply.
@@ -53,6 +55,25 @@ pub record EstimateBounds (estimate : Estimate) : Type 0 where
   pub fuel-allowed : fuelAllowed (estimate .fuel) ≡ true
   pub volume-most : estimate .volume ≤ mostVolume
   pub charged-most : estimate .charged ≤ mostCharge
+
+-- The estimates of a head: as many stand as it says.
+pub record EstimatesFit (h : Head) (estimates : Estimates) : Type 0 where
+  pub count-is : estimates .count ≡ h .standing
+  pub few : estimates .count ≤ mostMisses
+  pub long : length (estimates .periods) ≡ mostMisses
+  pub within : Every EstimateBounds (standing estimates)
+
+-- What becomes of the estimates.
+abbrev pub changed : Change → Estimates → Estimates
+changed Kept estimates = estimates
+changed Cleared estimates = storedEstimates []
+changed (Added estimate) estimates = storedEstimates (standing estimates ++ (estimate ∷ []))
+
+-- One more estimate has a place.
+abbrev pub Room : Change → ℕ → Type 0
+Room Kept standing = 0 ≤ mostMisses
+Room Cleared standing = 0 ≤ mostMisses
+Room (Added estimate) standing = standing < mostMisses
 
 -- What follows a reading: the next period, a stop, or the end.
 abbrev pub ends : Then → Bool

@@ -5,11 +5,13 @@ ghost use Rattle.plan.specs.Limits.{priceAllowed, fuelAllowed, digitsAll
 use meter::dial_span;
 use tariff::Fuel;
 
-pub const LAST_CALL_DAY: u16 = 36_494;
-
 pub const MOST_VOLUME: u32 = 99_999;
 
 pub const MOST_MISSES: usize = 6;
+
+pub const MOST_DAYS: u16 = 36_495;
+
+pub const MOST_CHARGE: u32 = 100_000_000;
 
 const MOST_FUEL_PRICE: u32 = 300_000;
 

@@ -4,15 +4,14 @@ ghost use mathlib.Core.Bool.{true, false};
 ghost use mathlib.Core.List.{[]};
 ghost use Prim.Native.Nat.{_≤_};
 ghost use lib.ListN.{length};
-ghost use Rattle.lists.specs.Every.{Every};
-ghost use Rattle.meter.specs.Sharing.{standing, AtMostSix};
+ghost use Rattle.meter.specs.Sharing.{standing};
 ghost use Rattle.ledger.specs.Limits.{lastCallDay};
 ghost use Rattle.ledger.specs.Posting.{NetBounds};
 ghost use Rattle.plan.specs.Statuses.{isNew, isStopped, stopOf};
 ghost use Rattle.plan.specs.Closing.{resumedStart};
 ghost use Rattle.plan.specs.Limits.{mostVolume};
 ghost use Rattle.plan.specs.Refusals.{begins, dialRefusal, missRefusal, exchangeRefusal, paymentRefusal, readingRefusal};
-ghost use Rattle.plan.specs.Plans.{HeadBounds, EstimateBounds, ends, statusAfter, quietPlan, plannedAs, volumesAs, begunPlan, exchangedPlan, paymentPlan, stoppedPlan, askingPlan, missPlan, finals, figuredPlan, readPlan, planned, plannedVolumes, filledWith, reads};
+ghost use Rattle.plan.specs.Plans.{HeadBounds, EstimatesFit, ends, statusAfter, quietPlan, plannedAs, volumesAs, begunPlan, exchangedPlan, paymentPlan, stoppedPlan, askingPlan, missPlan, finals, figuredPlan, readPlan, planned, plannedVolumes, filledWith, reads};
 use crate::Call;
 use crate::Change;
 use crate::Figures;
@@ -87,6 +86,20 @@ fn reads(call: Call) -> bool
     }
 }
 
+// Any call, with the estimates that stand.
+pub fn plan_with(head: Head, estimates: Estimates, call: Call, volumes: &mut [u32; 7]) -> Plan
+    requires { ⌜ HeadBounds head ⌝ }
+    requires { ⌜ EstimatesFit head estimates ⌝ }
+    requires { ⌜ length (now volumes) ≡ 7 ⌝ }
+    ensures { λ r. ⌜ r ≡ planned head (standing estimates) call ⌝ }
+    ensures { λ _. ⌜ now (volumes .exit) ≡ filledWith (plannedVolumes head (standing estimates) call) (now (volumes .entry)) ⌝ }
+{
+    if over(head.standing, call) {
+        return plan_over(head, estimates, call, volumes);
+    }
+    plan_call(head, call, volumes)
+}
+
 // A call that looks at no estimate.
 pub fn plan_call(head: Head, call: Call, volumes: &mut [u32; 7]) -> Plan
     requires { ⌜ HeadBounds head ⌝ }
@@ -130,8 +143,7 @@ pub fn plan_call(head: Head, call: Call, volumes: &mut [u32; 7]) -> Plan
 // A call that reads the meter, where estimates stand.
 pub fn plan_over(head: Head, estimates: Estimates, call: Call, volumes: &mut [u32; 7]) -> Plan
     requires { ⌜ HeadBounds head ⌝ }
-    requires { ⌜ AtMostSix estimates ⌝ }
-    requires { ⌜ Every EstimateBounds (standing estimates) ⌝ }
+    requires { ⌜ EstimatesFit head estimates ⌝ }
     requires { ⌜ length (now volumes) ≡ 7 ⌝ }
     requires { ⌜ reads call ≡ true ⌝ }
     ensures { λ r. ⌜ r ≡ planned head (standing estimates) call ⌝ }
@@ -384,8 +396,7 @@ fn plan_reading_over(
     volumes: &mut [u32; 7],
 ) -> Plan
     requires { ⌜ HeadBounds head ⌝ }
-    requires { ⌜ AtMostSix estimates ⌝ }
-    requires { ⌜ Every EstimateBounds (standing estimates) ⌝ }
+    requires { ⌜ EstimatesFit head estimates ⌝ }
     requires { ⌜ length (now volumes) ≡ 7 ⌝ }
     ensures { λ r. ⌜ r ≡ plannedAs (readingRefusal head day reading fuel) (readPlan head (standing estimates) day reading fuel then) head ⌝ }
     ensures { λ _. ⌜ now (volumes .exit) ≡ filledWith (volumesAs (readingRefusal head day reading fuel) (finals head (standing estimates) reading)) (now (volumes .entry)) ⌝ }

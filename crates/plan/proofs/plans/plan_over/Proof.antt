@@ -43,7 +43,7 @@ returns-3 c =
 returns-4 : tie.Need-returns-4
 returns-4 c =
     let s : tie.Start = search in
-    absurd (false≢true (sym (no-reading (s .args .call) (c .before .match .keys4)) ∙ s .pre .1 .1 .1 .1))
+    absurd (false≢true (sym (no-reading (s .args .call) (c .before .match .keys4)) ∙ s .pre .1 .1 .1))
 
 pub plan-over-spec : {M : Type 1} → statement M
 plan-over-spec =

@@ -27,13 +27,13 @@ close-over-requires : tie.Need-close-over-requires
 close-over-requires c κs =
     let one : tie.Else1 = search in
     let s = one .before .before in
-    (s .pre .0, (sym (one .before .reading-refusal .ensures) ∙ one .if1 .left, s .pre .1))
+    (s .pre .0, (sym (one .before .reading-refusal .ensures) ∙ one .if1 .left, (s .pre .1 .0 .few, (s .pre .1 .0 .within, s .pre .1 .1))))
 
 after-reading-requires : tie.Need-after-reading-requires
 after-reading-requires c κs =
     let one : tie.Else1 = search in
     let s = one .before .before .args in
-    let bounds = read-net-bounds (s .head) (standing (s .estimates)) (s .day) (s .reading) (s .fuel) (ready one) (omega (arith, length-take-most (s .estimates .count) (s .estimates .periods), one .before .before .pre .1 .0)) (one .before .before .pre .1 .1 .0) in
+    let bounds = read-net-bounds (s .head) (standing (s .estimates)) (s .day) (s .reading) (s .fuel) (ready one) (omega (arith, length-take-most (s .estimates .count) (s .estimates .periods), one .before .before .pre .1 .0 .few)) (one .before .before .pre .1 .0 .within) in
     (ready one .day-most, subst (λ (f : Figures). NetBounds (f .net)) (sym (c .close-over .ensures .0)) bounds)
 
 returns-2 : tie.Need-returns-2

@@ -1,0 +1,138 @@
+-- What a call comes to, on an account and where its items lie, by its plan. Assumes nothing.
+use mathlib.Core.Path.{_≡_, refl, sym, ap, subst, _∙_}
+use mathlib.Core.Bool.{Bool, true, false, cond}
+use mathlib.Core.List.{List}
+use Prim.Native.Nat.{ℕ, _+_, _≤_}
+use native.Mathlib.Omega.{arith}
+use lib.ListN.{length, take, replicate}
+use lib.Seq.{take-append-seam}
+use borrow.Author.Tests.{le-leb, eq-eqb, ne-eqb}
+use Rattle.meter.specs.declared.Estimates.{Estimates}
+use Rattle.meter.specs.Sharing as Sharing
+use Rattle.ledger.specs.declared.Entry.{Entry}
+use Rattle.ledger.specs.declared.Item.{Item}
+use Rattle.ledger.specs.declared.Ledger.{Ledger}
+use Rattle.ledger.specs.declared.Queue.{Queue}
+use Rattle.ledger.specs.Limits.{capacity, mostCredit, mostEnd}
+use Rattle.ledger.specs.Settling.{unpaidOf}
+use Rattle.ledger.specs.Posting.{Standing, standing, stored}
+use Rattle.ledger.specs.Entries.{asked, numberOf, next, interestPosted, Within}
+use Rattle.ledger.specs.Numbers.{lying, Lies}
+use Rattle.ledger.proofs.Bounds.{standing-stored}
+use Rattle.ledger.proofs.Queues.{part-count}
+use Rattle.plan.specs.declared.Head.{Head}
+use Rattle.plan.specs.declared.Call.{Call}
+use Rattle.plan.specs.declared.Plan.{Plan}
+use Rattle.plan.specs.Limits.{mostMisses}
+use Rattle.plan.specs.Refusals.{firstRefusal}
+use Rattle.plan.specs.Plans.{HeadBounds, EstimatesFit, changed, Room, passedPlan, passedVolumes, planned, plannedVolumes, filledWith}
+use Rattle.plan.proofs.Bounds.{change-room, counted}
+use Rattle.account.specs.declared.Account.{Account}
+use Rattle.account.specs.declared.Outcome.{Outcome}
+use Rattle.account.specs.Calls.{headOf, standingEstimates, Work, work}
+use Rattle.account.specs.Whole.{whole}
+use Rattle.account.specs.Refusals.{lastRefusal}
+use Rattle.account.specs.Outcomes.{accepted, declined, concluded, outcome}
+use Rattle.account.specs.Steps.{accountOf, EstimatesOf, workOf, stayed, gone, Steps}
+use Rattle.account.proofs.Concluding.{concluded-accepted, concluded-declined, outcome-concluded}
+use Rattle.account.proofs.Working.{plan-works, quiet-says, asking-says}
+
+-- 12 and 13 decline nothing on a ledger that keeps to them.
+pub last-none : (ledger : Ledger) → ledger .count ≤ capacity → ledger .credit ≤ mostCredit → lastRefusal ledger ≡ 0
+last-none ledger few credit = rw (le-leb (ledger .count) capacity few, le-leb (ledger .credit) mostCredit credit) refl
+
+-- An entry that is refused changes nothing.
+pub kept : (e : Entry) (s : Standing) → (numberOf (asked e s) ≡ 0 → ⊥) → next e s ≡ s
+kept e s z = rw (ne-eqb (numberOf (asked e s)) 0 z) refl
+
+-- A call on the account that lies there.
+module _ (h : Head) (estimates : Estimates) (s : Standing) (call : Call) where
+  abbrev a : Account
+  a = accountOf h estimates (stored s)
+
+  -- Where the items lie, how many there are and how much room is left.
+  pub record Lain (after : List Item) (q : Queue) : Type 0 where
+    pub lies : Lies after q
+    pub few : q .count ≤ capacity
+    pub room : q .front + q .count ≤ mostEnd
+
+  -- What comes of it where nothing changes.
+  pub steps-stayed : (n : ℕ) → outcome a call ≡ declined a n → (n ≡ 0 → ⊥) → EstimatesOf h estimates → (after : List Item) (q : Queue) (volumes : List ℕ)
+      → lying after q ≡ s → Lain after q → Steps h estimates s call after (stayed n h q) volumes
+  steps-stayed n e some w after q volumes same lain =
+      record {
+        number-is = sym (ap (λ (x : Outcome). x .answer .number) e);
+        account-is = ap (λ x. accountOf h estimates (stored x)) same ∙ sym (ap (λ (x : Outcome). x .account) e);
+        answer-is = λ none. absurd (some none);
+        counted = w .count-is;
+        room-left = omega arith;
+        lies = lain .lies;
+        few = lain .few;
+        room = lain .room;
+      }
+
+  -- And where its plan is carried out.
+  module _ (first : firstRefusal h call ≡ 0) (fit : EstimatesFit h estimates) (volumes : List ℕ) where
+    abbrev p : Plan
+    p = passedPlan h (Sharing.standing estimates) call
+
+    abbrev pub made : Standing → ℕ → Work
+    made x interest =
+        record {
+          account = accountOf (p .head) (changed (p .change) estimates) (stored x);
+          estimated = p .estimated;
+          volumes = passedVolumes h (Sharing.standing estimates) call;
+          net = p .net;
+          interest = interest;
+        }
+
+    pub steps-gone : take (p .count) volumes ≡ passedVolumes h (Sharing.standing estimates) call → (after : List Item) (q : Queue) (x : Standing) (interest : ℕ)
+        → outcome a call ≡ accepted (made x interest) → lying after q ≡ x → Lain after q → Steps h estimates s call after (gone p q interest) volumes
+    steps-gone shown after q x interest e same lain =
+        let said : outcome a call ≡ accepted (made (lying after q) interest) = e ∙ ap (λ y. accepted (made y interest)) (sym same) in
+        let few : length (lying after q .open-items) ≤ capacity = omega (arith, part-count (lain .lies), lain .few) in
+        let owed = lain .lies .owed-is ∙ sym (ap (λ (y : Standing). unpaidOf (y .open-items)) (standing-stored (lying after q) few)) in
+        record {
+          number-is = sym (ap (λ (y : Outcome). y .answer .number) said);
+          account-is = sym (ap (λ (y : Outcome). y .account) said);
+          answer-is = λ _.
+              (λ i. record { number = 0; estimated = p .estimated; volumes = Sharing.volumesOf (shown i); net = p .net; interest = interest; unpaid = owed i; credit = q .credit }) ∙
+              sym (ap (λ (y : Outcome). y .answer) said);
+          counted = counted h estimates (fit .count-is) (omega (arith, fit .few, fit .long)) call;
+          room-left = subst (Room (p .change)) (sym (fit .count-is)) (change-room h (Sharing.standing estimates) call first);
+          lies = lain .lies;
+          few = lain .few;
+          room = lain .room;
+        }
+
+    module _ (w : whole a ≡ true) (within : Within s) where
+      back : standing (stored s) ≡ s
+      back = standing-stored s (within .count-most)
+
+      -- the head of the account that lies there
+      head-is : headOf a ≡ h
+      head-is = λ i. record { status = h .status; latest = h .latest; meter = h .meter; standing = fit .count-is i }
+
+      works : workOf p (passedVolumes h (Sharing.standing estimates) call) estimates (stored s) ≡ work a call
+      works = ap (λ (x : Head). workOf (passedPlan x (Sharing.standing estimates) call) (passedVolumes x (Sharing.standing estimates) call) estimates (stored s)) (sym head-is) ∙ plan-works a call
+
+      concludes : outcome a call ≡ concluded a (work a call)
+      concludes = outcome-concluded a call w (ap (λ (x : Head). firstRefusal x call) head-is ∙ first)
+
+      pub outcome-quiet : p .asks ≡ false → outcome a call ≡ accepted (made s 0)
+      outcome-quiet f =
+          concludes ∙ ap (concluded a) (sym (quiet-says p (passedVolumes h (Sharing.standing estimates) call) estimates (stored s) f ∙ works)) ∙
+          concluded-accepted a (made s 0) (last-none (stored s) (within .count-most) (within .credit-most))
+
+      asked-work : p .asks ≡ true → made (asked (p .entry) s) (interestPosted (p .entry) s) ≡ work a call
+      asked-work f =
+          (λ i. made (asked (p .entry) (sym back i)) (interestPosted (p .entry) (sym back i))) ∙
+          asking-says p (passedVolumes h (Sharing.standing estimates) call) estimates (stored s) f ∙ works
+
+      pub outcome-asked : p .asks ≡ true → numberOf (asked (p .entry) s) ≡ 0 → outcome a call ≡ accepted (made (asked (p .entry) s) (interestPosted (p .entry) s))
+      outcome-asked f z =
+          concludes ∙ ap (concluded a) (sym (asked-work f)) ∙ concluded-accepted a (made (asked (p .entry) s) (interestPosted (p .entry) s)) z
+
+      pub outcome-refused : p .asks ≡ true → (n : ℕ) → n ≡ numberOf (asked (p .entry) s) → (n ≡ 0 → ⊥) → outcome a call ≡ declined a n
+      outcome-refused f n e some =
+          concludes ∙ ap (concluded a) (sym (asked-work f)) ∙ concluded-declined a (made (asked (p .entry) s) (interestPosted (p .entry) s)) n e some

@@ -1,0 +1,129 @@
+-- A plan comes to the work of its call. Assumes nothing.
+use mathlib.Core.Path.{_≡_, refl, sym, ap, _∙_}
+use mathlib.Core.Bool.{Bool, true, false, cond}
+use mathlib.Core.List.{List, [], _++_}
+use Prim.Native.Nat.{ℕ, _+_, _-_, _≤_}
+use native.Mathlib.Nat.{add-zero, zero-add}
+use native.Mathlib.Omega.{arith}
+use lib.IntN.{ℤ, pos}
+use lib.ListN.{length, take, drop, replicate}
+use borrow.Author.Tests.{eq-eqb}
+use Rattle.lists.proofs.Pad.{drop-replicate}
+use Rattle.tariff.specs.declared.Fuel.{Fuel}
+use Rattle.meter.specs.declared.Estimates.{Estimates}
+use Rattle.meter.specs.declared.Volumes.{Volumes}
+use Rattle.meter.specs.Sharing.{volumesOf}
+use Rattle.ledger.specs.declared.Ledger.{Ledger}
+use Rattle.ledger.specs.Posting.{Standing, standing, stored, closed, heldPosted, chargeOf, creditOf}
+use Rattle.ledger.specs.declared.Entry.{Entry}
+use Rattle.ledger.specs.Limits.{capacity}
+use Rattle.ledger.specs.Entries.{taken, asked, numberOf, next, interestPosted}
+use Rattle.ledger.proofs.Within.{number-passes}
+use Rattle.ledger.proofs.Posting.{closed-with-none}
+use Rattle.plan.specs.declared.Call.{Call}
+use Rattle.plan.specs.declared.Call.the-variants.{Opening, Reading, Missed, Absent, Exchange, Disconnection, Reconnection, Cancellation, Payment, StoppedCancellation}
+use Rattle.plan.specs.declared.Plan.{Plan}
+use Rattle.plan.specs.declared.Then.{Then}
+use Rattle.plan.specs.declared.Then.the-variants.{Goes, Stops, Ends}
+use Rattle.plan.specs.Statuses.{isCancelled}
+use Rattle.plan.specs.Plans.{changed, statusAfter, paymentPlan, stoppedPlan, missPlan, finals, readPlan, passedPlan, passedVolumes, filledWith}
+use Rattle.account.specs.declared.Account.{Account}
+use Rattle.account.specs.Calls.{headOf, standingEstimates, Work, work, read, missed, cancelled, paidLedger, payment, stoppedCancellation}
+use Rattle.account.specs.Steps.{accountOf, workOf}
+
+-- A closing asks what its definition says, and the interest that it posts is what was held.
+closing-asked : (day : ℕ) (net : ℤ) (posts : Bool) (s : Standing)
+    → asked (record { day = day; money = creditOf net; closes = true; charge = chargeOf net; posts = posts }) s
+    ≡ cond posts (heldPosted day (closed day net s)) (closed day net s)
+unfolding asked taken closed
+closing-asked day net posts s = refl
+
+closing-taken : (day : ℕ) (net : ℤ) (posts : Bool) (s : Standing)
+    → taken (record { day = day; money = creditOf net; closes = true; charge = chargeOf net; posts = posts }) s ≡ closed day net s
+unfolding taken closed
+closing-taken day net posts s = refl
+
+module _ (a : Account) where
+  abbrev workBy : Plan → List ℕ → Work
+  workBy p final = workOf p final (a .estimates) (a .ledger)
+
+  abbrev s : Standing
+  s = standing (a .ledger)
+
+  -- 02 and 06, and 08, which posts what it brings.
+  module _ (day reading : ℕ) (fuel : Fuel) where
+    abbrev planBy : Then → Plan
+    planBy next = readPlan (headOf a) (standingEstimates a) day reading fuel next
+
+    abbrev final : List ℕ
+    final = finals (headOf a) (standingEstimates a) reading
+
+    goes-works : workBy (planBy Goes) final ≡ read a day reading fuel (statusAfter Goes day)
+    unfolding asked taken closed
+    goes-works = rw (add-zero (a .ledger .held)) refl
+
+    stops-works : workBy (planBy Stops) final ≡ read a day reading fuel (statusAfter Stops day)
+    unfolding asked taken closed
+    stops-works = rw (add-zero (a .ledger .held)) refl
+
+    ends-works : workBy (planBy Ends) final ≡ cancelled a day reading fuel
+    unfolding asked taken closed
+    ends-works = refl
+
+  miss-works : (day : ℕ) (fuel : Fuel) (absent : Bool) (volume : ℕ)
+      → workBy (missPlan (headOf a) day fuel absent volume) [] ≡ missed a day fuel absent volume
+  unfolding asked taken closed
+  miss-works day fuel absent volume = rw (add-zero (a .ledger .held)) refl
+
+  payment-works : (day yen : ℕ) → workBy (paymentPlan (headOf a) day yen) [] ≡ payment a day yen
+  unfolding asked taken
+  payment-works day yen = rw (zero-add (cond (isCancelled (a .status)) (paidLedger a day yen .held) 0)) refl
+
+  -- 0a asks for a closing with no net.
+  stopped-works : (day : ℕ) → workBy (stoppedPlan (headOf a) day) [] ≡ stoppedCancellation a day
+  stopped-works day = rw (closing-asked day (pos 0) false s, closed-with-none day s, add-zero (a .ledger .held)) refl
+
+  pub plan-works : (call : Call)
+      → workBy (passedPlan (headOf a) (standingEstimates a) call) (passedVolumes (headOf a) (standingEstimates a) call) ≡ work a call
+  unfolding work passedPlan passedVolumes
+  plan-works (Opening day reading digits) = refl
+  plan-works (Reading day reading fuel) = goes-works day reading fuel
+  plan-works (Missed day fuel) = miss-works day fuel false (a .meter .previous)
+  plan-works (Absent day fuel) = miss-works day fuel true 0
+  plan-works (Exchange day old new digits) = refl
+  plan-works (Disconnection day reading fuel) = stops-works day reading fuel
+  plan-works (Reconnection day reading digits) = refl
+  plan-works (Cancellation day reading fuel) = ends-works day reading fuel
+  plan-works (Payment day yen) = payment-works day yen
+  plan-works (StoppedCancellation day) = stopped-works day
+
+-- Volumes put into an array of zeros are those of an answer.
+pub zeros-filled : (final : List ℕ)
+    → _≡_ {A = Volumes} (record { count = length final; volumes = filledWith final (replicate 7 0) }) (volumesOf final)
+zeros-filled final = ap (λ rest. record { count = length final; volumes = final ++ rest }) (drop-replicate 0 (length final) 7)
+
+-- What a plan comes to, by whether it asks something of the ledger.
+module _ (p : Plan) (final : List ℕ) (estimates : Estimates) (ledger : Ledger) where
+  abbrev worksBy : Bool → Work
+  worksBy asks =
+      record {
+        account = accountOf (p .head) (changed (p .change) estimates) (cond asks (stored (asked (p .entry) (standing ledger))) ledger);
+        estimated = p .estimated;
+        volumes = final;
+        net = p .net;
+        interest = cond asks (interestPosted (p .entry) (standing ledger)) 0;
+      }
+
+  pub quiet-says : p .asks ≡ false → worksBy false ≡ workOf p final estimates ledger
+  quiet-says f = sym (ap worksBy f)
+
+  pub asking-says : p .asks ≡ true → worksBy true ≡ workOf p final estimates ledger
+  asking-says f = sym (ap worksBy f)
+
+-- An entry that is not refused.
+module _ (e : Entry) (s : Standing) (z : numberOf (asked e s) ≡ 0) where
+  pub next-asked : next e s ≡ asked e s
+  next-asked = rw (eq-eqb (numberOf (asked e s)) 0 z) refl
+
+  pub places-few : length (asked e s .open-items) ≤ capacity
+  places-few = number-passes (length (asked e s .open-items)) (asked e s .credit) z .count-most

@@ -1,0 +1,69 @@
+-- The places passed are blank. By `same-replicate` an array agrees with that of a new account where each place is blank.
+use mathlib.Core.Path.{_≡_, refl, sym, _∙_}
+use mathlib.Core.Bool.{Bool, true, false}
+use Prim.Native.Nat.{_-_, _≤_}
+use native.Mathlib.Omega.{arith}
+use native.Mathlib.Numerals.{add-one}
+use lib.ListN.{length, take}
+use borrow.Author.Needs.{needs}
+use borrow.Author.Tests.{not-true, not-false}
+use Rattle.lists.specs.Every.{every}
+use Rattle.lists.proofs.Every.{every-next, every-fails, same-replicate}
+use Rattle.lists.proofs.Pad.{length-of-mapped}
+use Rattle.ledger.specs.declared.Item.{Item}
+use Rattle.ledger.specs.Posting.{blank}
+use Rattle.account.specs.Whole.{sameItem}
+use Rattle.account.proofs.whole.blank_items.Statement.{statement}
+use Rattle.account.proofs.whole.blank_items.Tie as tie
+
+abbrev isBlank : Item → Bool
+isBlank item = sameItem item blank
+
+abbrev Inv-loop : tie.InvT-loop
+Inv-loop ledger i₀ i = (i ≤ 72) × (every isBlank (take i (ledger .items)) ≡ true)
+
+abbrev μ-loop : tie.MeasureT-loop
+μ-loop ledger i₀ i = 72 - i
+
+abbrev Walk : (tie.InvT-loop → tie.MeasureT-loop → Type 0) → Type 0
+Walk T = T Inv-loop μ-loop
+
+returns : Walk tie.Need-returns
+returns c =
+    let l : Walk tie.At-loop = search in
+    let places = l .before .args .t1 .items in
+    let long : length places ≡ 72 = search (length-of-mapped, needs) in
+    let fails = sym (c .before .blank-item .ensures) ∙ not-true (c .before .blank-item .result) (c .if1 .taken) in
+    sym (same-replicate sameItem blank places 72 long ∙ every-fails isBlank places 72 (l .loop .i) blank (omega arith) (omega arith) fails)
+
+loop-again : Walk tie.Need-loop-again
+loop-again c =
+    let l : Walk tie.At-loop = search in
+    let places = l .before .args .t1 .items in
+    let long : length places ≡ 72 = search (length-of-mapped, needs) in
+    let passes = sym (c .before .blank-item .ensures) ∙ not-false (c .before .blank-item .result) (c .if1 .left) in
+    (omega arith, rw (add-one (l .loop .i)) (every-next isBlank places (l .loop .i) blank (omega arith) (l .loop .inv .1) passes))
+
+returns-2 : Walk tie.Need-returns-2
+returns-2 c =
+    let l : Walk tie.At-loop = search in
+    let places = l .before .args .t1 .items in
+    let long : length places ≡ 72 = search (length-of-mapped, needs) in
+    let done : l .loop .i ≡ 72 = omega arith in
+    sym (same-replicate sameItem blank places 72 long ∙ rw done at (l .loop .inv .1))
+
+pub blank-items-spec : {M : Type 1} → statement M
+blank-items-spec =
+    tie.close
+    (tie.spec
+    Inv-loop
+    μ-loop
+    (λ c. (omega arith, refl))  -- loop-holds
+    (λ c. search needs)  -- mul-item
+    (λ c. search needs)  -- element-copy-out-item
+    (λ c κs. tt)  -- blank-item-requires
+    returns
+    (λ c. omega arith)  -- add-i
+    (λ c. omega arith)  -- loop-less
+    loop-again
+    returns-2)
