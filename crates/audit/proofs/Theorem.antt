@@ -10,8 +10,7 @@ use borrow.Author.Tests.{eqb-true}
 use Rattle.lists.specs.Sum.{total, sum}
 use Rattle.lists.proofs.Pad.{take-pad}
 use Rattle.ledger.specs.Settling.{unpaidOf}
-use Rattle.ledger.specs.Posting.{stored}
-use Rattle.ledger.specs.Oldest.{Tidy}
+use Rattle.ledger.specs.Posting.{stored, Tidy}
 use Rattle.account.specs.declared.Account.{Account}
 use Rattle.account.specs.declared.Call.{Call}
 use Rattle.account.specs.declared.Outcome.{Outcome}

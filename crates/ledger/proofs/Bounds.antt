@@ -23,9 +23,10 @@ stored-bounds s w h =
     record { count-most = h; items-within = subst (λ (x : Standing). Every ItemBounds (x .open-items)) (sym (standing-stored s h)) w }
 
 module _ (ledger : Ledger) (w : OpenBounds ledger) (long : length (ledger .items) ≡ capacity) where
-  pub open-count : length (take (ledger .count) (ledger .items)) ≡ ledger .count
+  open-count : length (take (ledger .count) (ledger .items)) ≡ ledger .count
   open-count = length-take-le (ledger .count) (ledger .items) (omega (arith, w .count-most))
 
   pub bounds-at : (i : ℕ) → i < ledger .count → ItemBounds (getD (ledger .items) i blank)
   bounds-at i h =
-      rw (getD-take (ledger .count) (ledger .items) i blank h) at (every-at ItemBounds (take (ledger .count) (ledger .items)) i blank (rw open-count h) (w .items-within))
+      let items = take (ledger .count) (ledger .items) in
+      rw (getD-take (ledger .count) (ledger .items) i blank h) at (every-at ItemBounds items i blank (rw open-count h) (w .items-within))

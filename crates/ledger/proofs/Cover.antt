@@ -2,19 +2,23 @@
 use mathlib.Core.Path.{_≡_, refl, ap, sym, _∙_}
 use mathlib.Core.Bool.{Bool, true, false}
 use mathlib.Core.List.{List, [], _∷_}
-use Prim.Native.Nat.{ℕ, suc, _+_, _-_, _≤_, _<_}
+use Prim.Native.Nat.{ℕ, suc, _+_, _-_, _*_, _≤_, _<_}
 use native.Mathlib.Nat.{add-assoc, add-zero, zero-add, suc-ne-zero, not-suc-le-zero, sub-zero, sub-self}
 use native.Mathlib.Omega.{arith}
 use lib.Dec.{leb}
 use lib.ListN.{length, getD, take, drop, length-drop}
 use lib.Seq.{drop-cons, drop-length, take-length}
 use borrow.Author.Tests.{leb-false, le-leb, lt-leb}
+use Rattle.lists.specs.Every.{Every}
+use Rattle.lists.proofs.Every.{every-map}
 use Rattle.lists.proofs.Sum.{total-suc}
 use Rattle.ledger.specs.declared.Item.{Item}
+use Rattle.ledger.specs.Limits.{lastCallDay, mostArisen}
 use Rattle.ledger.specs.Interest.{interestOn}
 use Rattle.ledger.specs.Settling.{Settlement, reduced, withInterest, settle, settledCount, unpaidOf}
-use Rattle.ledger.specs.Posting.{coverage, blank}
-use Rattle.ledger.proofs.Settling.{conserved, open-most}
+use Rattle.ledger.specs.Posting.{coverage, blank, ItemBounds}
+use Rattle.ledger.proofs.Interest.{interest-most}
+use Rattle.ledger.proofs.Settling.{conserved, arisen-most, open-most}
 
 -- The items before i are settled. What the money left makes of the others, with the interest so far, is what the whole makes of all.
 pub record Covering (items : List Item) (day money left arisen i : ℕ) : Type 0 where
@@ -89,3 +93,16 @@ not-covered day money (item ∷ items) h = go (leb (item .unpaid) money) refl (n
     go false e ih =
         let first : settledCount day money (item ∷ items) ≡ 0 = rw e (sub-self (suc (length items))) in
         rw first (record { less = rw (sub-zero money) (leb-false (item .unpaid) money e); stops = rw (e, sub-zero money) })
+
+-- How much a coverage can be.
+pub covered-most : (day money : ℕ) (items : List Item) → coverage day money items .covered ≤ length items
+unfolding coverage
+covered-most day money items = omega arith
+
+pub interest-within : (day money : ℕ) (items : List Item) → day ≤ lastCallDay → Every ItemBounds items
+    → coverage day money items .arisen ≤ length items * mostArisen
+unfolding coverage
+interest-within day money items h w =
+    let each : Every (λ item. interestOn item day ≤ mostArisen) items =
+    every-map ItemBounds (λ item. interestOn item day ≤ mostArisen) (λ item b. interest-most item day (b .price-most) h) items w in
+    omega (arith, arisen-most mostArisen day money items each)

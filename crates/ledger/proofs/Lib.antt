@@ -4,9 +4,7 @@ pub mod Bounds
 pub mod Settling
 pub mod Posting
 pub mod Cover
-pub mod Paying
 pub mod Signed
-pub mod Oldest
 pub mod Steps
 pub mod Tallies
 pub mod Entries

@@ -13,7 +13,6 @@ use lib.Seq.{drop-cons, drop-drop, drop-set-add, drop-set-lt, getD-set-same, tak
 use borrow.Author.Tests.{lt-ltb}
 use Rattle.lists.proofs.Pad.{drop-take}
 use Rattle.ledger.specs.declared.Kind.{Kind}
-use Rattle.ledger.specs.declared.Kind.the-variants.{Interest, Price}
 use Rattle.ledger.specs.declared.Item.{Item}
 use Rattle.ledger.specs.Settling.{reduced}
 use Rattle.ledger.specs.Posting.{blank}
@@ -32,16 +31,18 @@ pub part-oldest : (front count paid : ℕ) (items : List Item) → front < lengt
     → part front count (set items front (reduced (getD items front blank) paid)) ≡ lessPaid paid (part front count items)
 part-oldest front zero paid items h = refl
 part-oldest front (suc count) paid items h =
+    let item = reduced (getD items front blank) paid in
     rw (
-      drop-cons (set items front (reduced (getD items front blank) paid)) front blank (rw (length-set items front (reduced (getD items front blank) paid)) h),
-      getD-set-same items front (reduced (getD items front blank) paid) blank h,
-      drop-set-lt (suc front) items front (reduced (getD items front blank) paid) (le-refl (suc front)),
+      drop-cons (set items front item) front blank (rw (length-set items front item) h),
+      getD-set-same items front item blank h,
+      drop-set-lt (suc front) items front item (le-refl (suc front)),
       drop-cons items front blank h,
     )
 
 -- An item is stored behind the last; where nothing of it is unpaid, its place stays free.
 pub part-behind : (kind : Kind) (day amount unpaid front count at : ℕ) (items : List Item) → front + count ≡ at → at < length items
-    → part front (count + places unpaid) (set items at (made kind day amount unpaid)) ≡ part front count items ++ posted kind day amount unpaid
+    → part front (count + places unpaid) (set items at (made kind day amount unpaid)) ≡
+    part front count items ++ posted kind day amount unpaid
 unfolding places posted
 part-behind kind day amount unpaid front count at items e h = go (ltb 0 unpaid)
   where
@@ -53,7 +54,9 @@ part-behind kind day amount unpaid front count at items e h = go (ltb 0 unpaid)
 
     go : (b : Bool) → part front (count + cond b 1 0) (set items at item) ≡ part front count items ++ cond b (item ∷ []) []
     go true = rw (← e, drop-set-add front items count item, add-one count) (take-suc-set (drop front items) count item room)
-    go false = rw (← e, drop-set-add front items count item, add-zero count, append-nil (part front count items)) (take-set-le count (drop front items) count item (le-refl count))
+    go false =
+        rw (← e, drop-set-add front items count item, add-zero count, append-nil (part front count items))
+        (take-set-le count (drop front items) count item (le-refl count))
 
 pub places-none : (unpaid : ℕ) → unpaid ≡ 0 → places unpaid ≡ 0
 unfolding places
@@ -61,9 +64,11 @@ places-none unpaid e = rw e
 
 pub places-some : (unpaid : ℕ) → (unpaid ≡ 0 → ⊥) → places unpaid ≡ 1
 unfolding places
-places-some unpaid some = ⊎-elim (λ (e : unpaid ≡ 0). absurd (some e)) (λ (l : 0 < unpaid). rw (lt-ltb 0 unpaid l)) (eq-zero-or-pos unpaid)
+places-some unpaid some =
+    ⊎-elim (λ (e : unpaid ≡ 0). absurd (some e)) (λ (l : 0 < unpaid). rw (lt-ltb 0 unpaid l)) (eq-zero-or-pos unpaid)
 
-pub part-none : (kind : Kind) (day amount unpaid front count : ℕ) (items : List Item) → unpaid ≡ 0 → part front (count + places unpaid) items ≡ part front count items ++ posted kind day amount unpaid
+pub part-none : (kind : Kind) (day amount unpaid front count : ℕ) (items : List Item) → unpaid ≡ 0
+    → part front (count + places unpaid) items ≡ part front count items ++ posted kind day amount unpaid
 unfolding places posted
 part-none kind day amount unpaid front count items e = rw (e, add-zero count, append-nil (part front count items))
 

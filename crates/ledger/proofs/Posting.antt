@@ -1,11 +1,11 @@
 -- Laws of posting. Assumes nothing.
-use mathlib.Core.Path.{_≡_, refl, sym}
+use mathlib.Core.Path.{_≡_, refl}
 use mathlib.Core.Logic.{⊎-elim}
 use mathlib.Core.List.{List, [], _∷_, _++_, append-assoc, append-nil}
 use Prim.Native.Nat.{ℕ, _+_, _-_, _≤_, _<_}
 use native.Mathlib.Nat.{le-refl, add-assoc, add-zero, sub-zero, eq-zero-or-pos}
 use native.Mathlib.Omega.{arith}
-use lib.IntN.{ℤ, pos}
+use lib.IntN.{pos}
 use lib.ListN.{length, length-append}
 use borrow.Author.Tests.{le-leb, lt-leb, lt-ltb}
 use Rattle.lists.specs.Every.{Every}
@@ -15,7 +15,7 @@ use Rattle.ledger.specs.declared.Kind.the-variants.{Interest, Price}
 use Rattle.ledger.specs.declared.Item.{Item}
 use Rattle.ledger.specs.Interest.{interestOn}
 use Rattle.ledger.specs.Settling.{reduced, settle}
-use Rattle.ledger.specs.Posting.{Standing, newItem, entered, post, noneHeld, closed, paid, heldPosted, chargeOf, creditOf, Ready}
+use Rattle.ledger.specs.Posting.{Standing, newItem, entered, post, closed, heldPosted, Ready}
 use Rattle.ledger.proofs.Interest.{none-in-time}
 use Rattle.ledger.proofs.Settling.{Once, twice-once, left-or-none, settle-keeps, open-most}
 
@@ -34,12 +34,12 @@ reduced-by-none item = λ i. record { amount = item .amount; unpaid = sub-zero (
 abbrev pub Owing : List Item → Type 0
 Owing = Every (λ item. 1 ≤ item .unpaid)
 
-pub settle-none : (day : ℕ) (items : List Item) → Owing items → settle day 0 items ≡ record { left = 0; open-items = items; arisen = 0 }
+settle-none : (day : ℕ) (items : List Item) → Owing items → settle day 0 items ≡ record { left = 0; open-items = items; arisen = 0 }
 settle-none day [] w = refl
 settle-none day (item ∷ items) w = rw (lt-leb (item .unpaid) 0 (w .0), reduced-by-none item)
 
 -- What stays open is owed.
-pub settle-owing : (day money : ℕ) (items : List Item) → Owing items → Owing (settle day money items .open-items)
+settle-owing : (day money : ℕ) (items : List Item) → Owing items → Owing (settle day money items .open-items)
 settle-owing day money items w = settle-keeps (λ item. 1 ≤ item .unpaid) (λ item paid owed less. omega arith) day money items w
 
 pub entered-none : (kind : Kind) (day amount : ℕ) → amount ≡ 0 → entered kind day amount ≡ []
@@ -51,7 +51,7 @@ unfolding entered
 entered-some kind day amount h = rw (lt-ltb 0 amount h)
 
 -- An item bears no interest on the day it is posted.
-pub new-bears-none : (kind : Kind) (day amount : ℕ) → interestOn (newItem kind day amount) day ≡ 0
+new-bears-none : (kind : Kind) (day amount : ℕ) → interestOn (newItem kind day amount) day ≡ 0
 new-bears-none kind day amount = none-in-time (newItem kind day amount) day (omega arith)
 
 -- What a posting with no money comes to, by what the settling comes to.
@@ -117,18 +117,6 @@ post-count day money items s = omega (arith, open-most day (s .credit + money) (
 pub entered-count : (kind : Kind) (day amount : ℕ) → length (entered kind day amount) ≤ 1
 entered-count kind day amount =
     ⊎-elim (λ (e : amount ≡ 0). rw (entered-none kind day amount e) (omega arith)) (λ (l : 0 < amount). rw (entered-some kind day amount l) (le-refl 1)) (eq-zero-or-pos amount)
-
--- A closing step by step: what it credits settles the old items, then interest held is posted, then what it charges.
-pub closed-steps : (day : ℕ) (net : ℤ) (s : Standing) → closed day net s ≡ post day 0 (entered Price day (chargeOf net)) (post day 0 (entered Interest day (s .held)) (paid day (creditOf net) (noneHeld s)))
-unfolding closed paid
-closed-steps day net s =
-    sym
-    (rw (
-      post-post day (creditOf net) 0 [] (entered Interest day (s .held)) (noneHeld s),
-      post-post day (creditOf net + 0) 0 (entered Interest day (s .held)) (entered Price day (chargeOf net)) (noneHeld s),
-      add-zero (creditOf net),
-      add-zero (creditOf net),
-    ))
 
 -- A closing with no net posts interest held only.
 pub closed-with-none : (day : ℕ) (s : Standing) → closed day (pos 0) s ≡ heldPosted day s

@@ -24,8 +24,7 @@ use Rattle.ledger.specs.Posting.{Standing, coverage, blank, standing, st
 use Rattle.ledger.specs.Entries.{asked, numberOf, next, interestPosted, EntryBounds, Within}
 use Rattle.ledger.specs.Numbers.{settledBy, NumberBounds, lessPaid, places, posted, itemsAfter, queueOf, lying, Lies, Fit}
 use Rattle.ledger.proofs.Interest.{interest-most}
-use Rattle.ledger.proofs.Cover.{Covering, covering-next}
-use Rattle.ledger.proofs.Paying.{covered-most, interest-within}
+use Rattle.ledger.proofs.Cover.{Covering, covering-next, covered-most, interest-within}
 use Rattle.ledger.proofs.Steps.{cond-most}
 use Rattle.ledger.proofs.Tallies.{money-short, paid-within}
 use Rattle.ledger.proofs.Entries.{taken-known, asked-known, queue-is, number-is}
@@ -254,7 +253,8 @@ pub record Covered (items : List Item) (day money left arisen i : ℕ) : Type 0 
   pub interest : arisen ≤ i * mostArisen
   pub covering : Covering items day money left arisen i
 
-pub at-is : (items : List Item) (front count i : ℕ) → i < count → getD (part front count items) i blank ≡ getD items (front + i) blank
+pub at-is : (items : List Item) (front count i : ℕ) → i < count
+    → getD (part front count items) i blank ≡ getD items (front + i) blank
 at-is items front count i h = getD-take count (drop front items) i blank h ∙ getD-drop front items i blank
 
 -- The next item is covered.
@@ -270,7 +270,8 @@ covered-on items day money left arisen i front count d bounds long h w covers =
           let price-most = every-at ItemBounds (part front count items) i blank (rw long h) bounds .price-most in
           omega (arith, w .interest, interest-most (getD (part front count items) i blank) day price-most d);
       covering =
-          covering-next (part front count items) day money left arisen i (w .covering) (rw long h) (rw (at-is items front count i h) covers);
+          covering-next (part front count items) day money left arisen i (w .covering) (rw long h)
+          (rw (at-is items front count i h) covers);
     })
 
 -- Where a ledger's items are spread.
@@ -304,7 +305,7 @@ module _ {ledger : Ledger} {items : List Item} (w : Spread ledger items) where
       let same = sym (take-take (ledger .count) capacity items (w .count-most)) ∙ ap (take (ledger .count)) (w .front) in
       λ i. record { open-items = same i; credit = ledger .credit; held = ledger .held }
 
-  pub spread-at : {owed : ℕ} → owed ≡ unpaidOf (standing ledger .open-items) → Lies items (spreadQueue ledger owed)
+  spread-at : {owed : ℕ} → owed ≡ unpaidOf (standing ledger .open-items) → Lies items (spreadQueue ledger owed)
   spread-at {owed} owes =
       record {
         long = w .long;

@@ -1,12 +1,12 @@
 -- Items as three lists of numbers. Assumes nothing.
 use mathlib.Core.Path.{_≡_, refl, sym, ap, _∙_}
-use mathlib.Core.Bool.{true, false, cond}
+use mathlib.Core.Bool.{cond}
 use mathlib.Core.List.{List, [], _∷_, _++_}
 use Prim.Native.Nat.{ℕ, zero, suc, _+_, _-_, _*_, _/_, _%_, _≤_, _<_}
 use native.Mathlib.Nat.{suc-ne-zero, suc-inj, add-comm}
 use native.Mathlib.Omega.{arith}
 use lib.Dec.{ltb}
-use lib.ListN.{length, getD, set, take, drop, length-append, length-drop}
+use lib.ListN.{length, getD, set, take, drop, length-drop}
 use lib.Seq.{set-getD, set-at, getD-append-add, length-take-le, take-suc, drop-cons, getD-drop, append-snoc}
 use borrow.Author.Tests.{lt-ltb, le-ltb}
 use Rattle.ledger.specs.Limits.{lanePlaces}
@@ -83,7 +83,7 @@ module _ {A : Type 0} (front rest : List A) (d : A) where
       (set-at (take i front) (getD rest i d) (drop (suc i) rest) (getD front i d) i (length-take-le i front (omega arith)))
 
   -- behind what is filled, the list is as it was
-  pub fill-behind : (i j : ℕ) → i ≤ length front → getD (take i front ++ drop i rest) (i + j) d ≡ getD rest (i + j) d
+  fill-behind : (i j : ℕ) → i ≤ length front → getD (take i front ++ drop i rest) (i + j) d ≡ getD rest (i + j) d
   fill-behind i j h =
       rw (← getD-drop i rest j d)
       (ap (λ n. getD (take i front ++ drop i rest) (n + j) d) (sym (length-take-le i front h)) ∙

@@ -12,16 +12,7 @@ use borrow.Author.Tests.{leb-true, leb-false, le-leb, lt-leb}
 use Rattle.lists.specs.Every.{Every}
 use Rattle.ledger.specs.declared.Item.{Item}
 use Rattle.ledger.specs.Interest.{interestOn}
-use Rattle.ledger.specs.Settling.{reduced, withInterest, settle, settledCount, unpaidOf}
-
-module _ (day money : ℕ) (item : Item) (items : List Item) where
-  -- the head is covered
-  pub step-covered : item .unpaid ≤ money → settle day money (item ∷ items) ≡ withInterest (interestOn item day) (settle day (money - item .unpaid) items)
-  step-covered h = rw (le-leb (item .unpaid) money h)
-
-  -- the head is not covered
-  pub step-short : money < item .unpaid → settle day money (item ∷ items) ≡ record { left = 0; open-items = reduced item money ∷ items; arisen = 0 }
-  step-short h = rw (lt-leb (item .unpaid) money h)
+use Rattle.ledger.specs.Settling.{reduced, settle, settledCount, unpaidOf}
 
 -- What was paid is what is no longer unpaid: money + unpaid after = left + unpaid before.
 pub conserved : (day money : ℕ) (items : List Item) → money + unpaidOf (settle day money items .open-items) ≡ settle day money items .left + unpaidOf items

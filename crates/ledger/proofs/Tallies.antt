@@ -1,30 +1,28 @@
 -- The numbers are those of the definition, step by step. Assumes nothing.
-use mathlib.Core.Path.{_≡_, refl, sym, ap, _∙_, subst}
+use mathlib.Core.Path.{_≡_, refl, sym, ap, _∙_}
 use mathlib.Core.Logic.{_⊎_, ⊎-elim}
-use mathlib.Core.Bool.{Bool, true, false, cond}
+use mathlib.Core.Bool.{true, false}
 use mathlib.Core.List.{List, [], _∷_, _++_, append-nil}
-use Prim.Native.Nat.{ℕ, zero, suc, _+_, _-_, _*_, _≤_, _<_}
-use native.Mathlib.Nat.{le-refl, add-zero, sub-zero, sub-self, le-of-lt}
-use native.Mathlib.Numerals.{add-one}
+use Prim.Native.Nat.{ℕ, suc, _+_, _-_, _≤_, _<_}
+use native.Mathlib.Nat.{le-of-lt}
 use native.Mathlib.Omega.{arith}
-use lib.Dec.{ltb, leb, eqb}
+use lib.Dec.{ltb, eqb}
 use lib.ListN.{length, getD, take, drop, length-append, length-drop}
 use lib.Seq.{drop-cons, drop-length}
-use borrow.Author.Tests.{le-leb, lt-leb, lt-ltb, le-ltb, eq-eqb, ne-eqb}
-use Rattle.lists.specs.Every.{Every}
+use borrow.Author.Tests.{le-leb, lt-leb, lt-ltb, eq-eqb, ne-eqb}
 use Rattle.lists.proofs.Sum.{total-append}
 use Rattle.ledger.specs.declared.Kind.{Kind}
 use Rattle.ledger.specs.declared.Item.{Item}
 use Rattle.ledger.specs.declared.Coverage.{Coverage}
 use Rattle.ledger.specs.Settling.{Settlement, reduced, settle, settledCount, unpaidOf}
 use Rattle.ledger.specs.Posting.{Standing, newItem, entered, post, paid, settledWith, coverage, blank, Ready}
-use Rattle.ledger.proofs.Settling.{conserved, open-most}
+use Rattle.ledger.proofs.Settling.{conserved}
 use Rattle.ledger.proofs.Posting.{Owing, post-covered, post-short, post-ready, entered-owing}
 use Rattle.ledger.proofs.Cover.{all-settled, not-covered}
 use Rattle.ledger.proofs.Steps.{below-or}
 use Rattle.ledger.specs.declared.numbers.Tally.{Tally}
 use Rattle.ledger.specs.declared.numbers.Step.{Step}
-use Rattle.ledger.specs.Numbers.{posting, paying, lessPaid, made, posted}
+use Rattle.ledger.specs.Numbers.{posting, paying, lessPaid, posted}
 
 abbrev pub tallyOf : Standing → Tally
 tallyOf s = record { count = length (s .open-items); owed = unpaidOf (s .open-items); credit = s .credit }
@@ -39,20 +37,33 @@ pub record Known (x : Standing) (t : Tally) (items : List Item) (held : ℕ) : T
   pub held-is : x .held ≡ held
   pub ready : Ready x
 
-pub known-held : (x : Standing) (t : Tally) (items : List Item) (held more : ℕ) → Known x t items held → Known (withHeld more x) t items more
+pub known-held : (x : Standing) (t : Tally) (items : List Item) (held more : ℕ) → Known x t items held
+    → Known (withHeld more x) t items more
 known-held x t items held more w =
-    record { tally-is = w .tally-is; items-are = w .items-are; held-is = refl; ready = record { settled = w .ready .settled; none-at-zero = w .ready .none-at-zero } }
+    record {
+      tally-is = w .tally-is;
+      items-are = w .items-are;
+      held-is = refl;
+      ready = record { settled = w .ready .settled; none-at-zero = w .ready .none-at-zero };
+    }
 
 -- Posting an amount.
 module _ (kind : Kind) (day amount : ℕ) (x : Standing) (ready : Ready x) where
-  post-known : Known (post day 0 (entered kind day amount) x) (posting (tallyOf x) amount .tally) (x .open-items ++ posted kind day amount (posting (tallyOf x) amount .part)) (x .held)
+  abbrev step : Step
+  step = posting (tallyOf x) amount
+
+  abbrev PostKnown : Type 0
+  PostKnown =
+      Known (post day 0 (entered kind day amount) x) (step .tally) (x .open-items ++ posted kind day amount (step .part)) (x .held)
+
+  post-known : PostKnown
   unfolding posting posted
   post-known = ⊎-elim short covered (below-or (x .credit) amount)
     where
       after : Ready (post day 0 (entered kind day amount) x)
       after = post-ready day 0 (entered kind day amount) x (ready .none-at-zero) (entered-owing kind day amount)
 
-      covered : amount ≤ x .credit → Known (post day 0 (entered kind day amount) x) (posting (tallyOf x) amount .tally) (x .open-items ++ posted kind day amount (posting (tallyOf x) amount .part)) (x .held)
+      covered : amount ≤ x .credit → PostKnown
       covered h =
           let is = post-covered kind day amount x ready h in
           rw (le-leb amount (x .credit) h)
@@ -63,7 +74,7 @@ module _ (kind : Kind) (day amount : ℕ) (x : Standing) (ready : Ready x) where
             ready = after;
           })
 
-      short : x .credit < amount → Known (post day 0 (entered kind day amount) x) (posting (tallyOf x) amount .tally) (x .open-items ++ posted kind day amount (posting (tallyOf x) amount .part)) (x .held)
+      short : x .credit < amount → PostKnown
       short h =
           let is = post-short kind day amount x ready h in
           let item = reduced (newItem kind day amount) (x .credit) in
@@ -76,100 +87,127 @@ module _ (kind : Kind) (day amount : ℕ) (x : Standing) (ready : Ready x) where
             ready = after;
           })
         where
-          owes : unpaidOf (x .open-items ++ (reduced (newItem kind day amount) (x .credit) ∷ [])) ≡ unpaidOf (x .open-items) + (amount - x .credit)
-          owes = rw (total-append (λ (item : Item). item .unpaid) (x .open-items) (reduced (newItem kind day amount) (x .credit) ∷ [])) (omega arith)
+          owes :
+              unpaidOf (x .open-items ++ (reduced (newItem kind day amount) (x .credit) ∷ [])) ≡
+              unpaidOf (x .open-items) + (amount - x .credit)
+          owes =
+              let item = reduced (newItem kind day amount) (x .credit) in
+              rw (total-append (λ (item : Item). item .unpaid) (x .open-items) (item ∷ [])) (omega arith)
 
 pub known-post : (kind : Kind) (day amount : ℕ) (x : Standing) (t : Tally) (items : List Item) (held : ℕ) → Known x t items held
-    → Known (post day 0 (entered kind day amount) x) (posting t amount .tally) (items ++ posted kind day amount (posting t amount .part)) held
+    → let step = posting t amount in
+    Known (post day 0 (entered kind day amount) x) (step .tally) (items ++ posted kind day amount (step .part)) held
 known-post kind day amount x t items held w =
     rw (← w .tally-is, ← w .items-are, ← w .held-is) (post-known kind day amount x (w .ready))
 
 -- Money that comes in.
-module _ (day money held : ℕ) (s : Standing) (owing : Owing (s .open-items)) (cover : Coverage) (covers : cover ≡ coverage day (s .credit + money) (s .open-items)) where
-  abbrev Goal : Type 0
-  Goal = Known (paid day money (withHeld held s)) (paying (tallyOf s) (s .credit + money) cover .tally) (lessPaid (paying (tallyOf s) (s .credit + money) cover .part) (drop (cover .covered) (s .open-items))) (held + cover .arisen)
+module _ (day money held : ℕ) (s : Standing) (owing : Owing (s .open-items)) (cover : Coverage)
+    (covers : cover ≡ coverage day (s .credit + money) (s .open-items)) where
+  abbrev all-money : ℕ
+  all-money = s .credit + money
+
+  abbrev opens : List Item
+  opens = s .open-items
+
+  abbrev covered : ℕ
+  covered = cover .covered
+
+  abbrev paying-step : Step
+  paying-step = paying (tallyOf s) all-money cover
 
   after : Ready (paid day money (withHeld held s))
   unfolding paid
   after = post-ready day money [] (withHeld held s) owing tt
 
-  settled : (done : Settlement) → settle day (s .credit + money) (s .open-items) ≡ done → paid day money (withHeld held s) ≡ settledWith (withHeld held s) done
+  settled : (done : Settlement) → settle day all-money opens ≡ done → paid day money (withHeld held s) ≡ settledWith (withHeld held s) done
   unfolding paid post
-  settled done e = rw (append-nil (s .open-items), e)
+  settled done e = rw (append-nil opens, e)
 
-  count-is : cover .covered ≡ settledCount day (s .credit + money) (s .open-items)
+  count-is : covered ≡ settledCount day all-money opens
   unfolding coverage
   count-is = ap (λ c. c .covered) covers
 
-  left-is : cover .left ≡ (s .credit + money) - unpaidOf (take (settledCount day (s .credit + money) (s .open-items)) (s .open-items))
+  left-is : cover .left ≡ all-money - unpaidOf (take (settledCount day all-money opens) opens)
   unfolding coverage
   left-is = ap (λ c. c .left) covers
 
-  arisen-is : cover .arisen ≡ settle day (s .credit + money) (s .open-items) .arisen
+  arisen-is : cover .arisen ≡ settle day all-money opens .arisen
   unfolding coverage
   arisen-is = ap (λ c. c .arisen) covers
 
-  pub money-short : cover .covered < length (s .open-items) → s .credit + money ≤ unpaidOf (s .open-items)
+  pub money-short : covered < length opens → all-money ≤ unpaidOf opens
   money-short h =
-      let stops = not-covered day (s .credit + money) (s .open-items) (rw count-is at h) .stops in
-      omega (arith, conserved day (s .credit + money) (s .open-items), ap (λ (d : Settlement). d .left) stops)
+      let stops = not-covered day all-money opens (rw count-is at h) .stops in
+      omega (arith, conserved day all-money opens, ap (λ (d : Settlement). d .left) stops)
 
   -- no more is paid of the oldest item that stays than is unpaid of it
-  pub paid-within : (unpaid : ℕ) → (cover .covered < length (s .open-items) → unpaid ≡ getD (s .open-items) (cover .covered) blank .unpaid) → paying (tallyOf s) (s .credit + money) cover .part ≤ unpaid
+  pub paid-within : (unpaid : ℕ) → (covered < length opens → unpaid ≡ getD opens covered blank .unpaid) → paying-step .part ≤ unpaid
   unfolding paying
-  paid-within unpaid is = ⊎-elim short all (below-or (cover .covered) (length (s .open-items)))
+  paid-within unpaid is = ⊎-elim short all (below-or covered (length opens))
     where
-      all : length (s .open-items) ≤ cover .covered → paying (tallyOf s) (s .credit + money) cover .part ≤ unpaid
-      all h = rw (eq-eqb (length (s .open-items) - cover .covered) 0 (omega arith)) (omega arith)
+      all : length opens ≤ covered → paying-step .part ≤ unpaid
+      all h = rw (eq-eqb (length opens - covered) 0 (omega arith)) (omega arith)
 
-      short : cover .covered < length (s .open-items) → paying (tallyOf s) (s .credit + money) cover .part ≤ unpaid
+      short : covered < length opens → paying-step .part ≤ unpaid
       short h =
-          rw (ne-eqb (length (s .open-items) - cover .covered) 0 never, is h, left-is, count-is)
-          (le-of-lt (not-covered day (s .credit + money) (s .open-items) (rw count-is at h) .less))
+          rw (ne-eqb (length opens - covered) 0 never, is h, left-is, count-is)
+          (le-of-lt (not-covered day all-money opens (rw count-is at h) .less))
         where
-          never : length (s .open-items) - cover .covered ≡ 0 → ⊥
+          never : length opens - covered ≡ 0 → ⊥
           never e = omega arith
 
-  pub known-paid : Goal
+  -- the oldest item that stays, and those behind it
+  abbrev next : Item
+  next = reduced (getD opens covered blank) (cover .left)
+
+  abbrev behind : List Item
+  behind = drop (suc covered) opens
+
+  abbrev Stops : Type 0
+  Stops = settle day all-money opens ≡ record { left = 0; open-items = next ∷ behind; arisen = cover .arisen }
+
+  abbrev PaidKnown : Type 0
+  PaidKnown =
+      Known (paid day money (withHeld held s)) (paying-step .tally) (lessPaid (paying-step .part) (drop covered opens))
+      (held + cover .arisen)
+
+  pub known-paid : PaidKnown
   unfolding paying
-  known-paid = ⊎-elim short all (below-or (cover .covered) (length (s .open-items)))
+  known-paid = ⊎-elim short all (below-or covered (length opens))
     where
-      all : length (s .open-items) ≤ cover .covered → Goal
+      all : length opens ≤ covered → PaidKnown
       all h =
-          let full : settledCount day (s .credit + money) (s .open-items) ≡ length (s .open-items) = omega (arith, count-is) in
-          let is = settled (record { left = cover .left; open-items = []; arisen = cover .arisen }) (rw covers (all-settled day (s .credit + money) (s .open-items) full)) in
-          let none : eqb (length (s .open-items) - cover .covered) 0 ≡ true = eq-eqb (length (s .open-items) - cover .covered) 0 (omega arith) in
-          let whole : cover .covered ≡ length (s .open-items) = count-is ∙ full in
+          let full : settledCount day all-money opens ≡ length opens = omega (arith, count-is) in
+          let done : Settlement = record { left = cover .left; open-items = []; arisen = cover .arisen } in
+          let is = settled done (rw covers (all-settled day all-money opens full)) in
+          let none : eqb (length opens - covered) 0 ≡ true = eq-eqb (length opens - covered) 0 (omega arith) in
+          let gone : drop covered opens ≡ [] = ap (λ n. drop n opens) (count-is ∙ full) ∙ drop-length opens in
           rw none
           (record {
             tally-is = ap tallyOf is;
-            items-are = ap (λ (x : Standing). x .open-items) is ∙ sym (ap (lessPaid 0) (ap (λ n. drop n (s .open-items)) whole ∙ drop-length (s .open-items)));
+            items-are = ap (λ (x : Standing). x .open-items) is ∙ sym (ap (lessPaid 0) gone);
             held-is = ap (λ (x : Standing). x .held) is;
             ready = after;
           })
 
-      short : cover .covered < length (s .open-items) → Goal
+      short : covered < length opens → PaidKnown
       short h =
-          let k = cover .covered in
-          let next = reduced (getD (s .open-items) k blank) (cover .left) in
-          let stops : settle day (s .credit + money) (s .open-items) ≡ record { left = 0; open-items = next ∷ drop (suc k) (s .open-items); arisen = cover .arisen } =
-          rw (arisen-is, left-is, count-is) (not-covered day (s .credit + money) (s .open-items) (rw count-is at h) .stops) in
-          let is = settled (record { left = 0; open-items = next ∷ drop (suc k) (s .open-items); arisen = cover .arisen }) stops in
-          let some : eqb (length (s .open-items) - k) 0 ≡ false = ne-eqb (length (s .open-items) - k) 0 (λ e. never e) in
+          let stops : Stops = rw (arisen-is, left-is, count-is) (not-covered day all-money opens (rw count-is at h) .stops) in
+          let is = settled (record { left = 0; open-items = next ∷ behind; arisen = cover .arisen }) stops in
+          let some : eqb (length opens - covered) 0 ≡ false = ne-eqb (length opens - covered) 0 (λ e. never e) in
           rw some
           (record {
             tally-is = ap tallyOf is ∙ (λ i. record { count = count i; owed = owes stops i; credit = 0 });
-            items-are = ap (λ (x : Standing). x .open-items) is ∙ sym (ap (lessPaid (cover .left)) (drop-cons (s .open-items) k blank h));
+            items-are = ap (λ (x : Standing). x .open-items) is ∙ sym (ap (lessPaid (cover .left)) (drop-cons opens covered blank h));
             held-is = ap (λ (x : Standing). x .held) is;
             ready = after;
           })
         where
-          never : length (s .open-items) - cover .covered ≡ 0 → ⊥
+          never : length opens - covered ≡ 0 → ⊥
           never e = omega arith
 
-          count : suc (length (drop (suc (cover .covered)) (s .open-items))) ≡ length (s .open-items) - cover .covered
-          count = rw (length-drop (suc (cover .covered)) (s .open-items)) (omega arith)
+          count : suc (length behind) ≡ length opens - covered
+          count = rw (length-drop (suc covered) opens) (omega arith)
 
-          owes : settle day (s .credit + money) (s .open-items) ≡ record { left = 0; open-items = reduced (getD (s .open-items) (cover .covered) blank) (cover .left) ∷ drop (suc (cover .covered)) (s .open-items); arisen = cover .arisen }
-              → unpaidOf (reduced (getD (s .open-items) (cover .covered) blank) (cover .left) ∷ drop (suc (cover .covered)) (s .open-items)) ≡ unpaidOf (s .open-items) - (s .credit + money)
-          owes stops = let all = conserved day (s .credit + money) (s .open-items) in omega (arith, rw stops at all)
+          owes : Stops → unpaidOf (next ∷ behind) ≡ unpaidOf opens - all-money
+          owes stops = let all = conserved day all-money opens in omega (arith, rw stops at all)

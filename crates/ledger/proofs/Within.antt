@@ -23,7 +23,8 @@ use Rattle.ledger.proofs.Settling.{settle-keeps, arisen-most}
 use Rattle.ledger.proofs.Posting.{Owing, entered-none, entered-some}
 
 reduced-bounds : (item : Item) (money : ℕ) → ItemBounds item → money < item .unpaid → ItemBounds (reduced item money)
-reduced-bounds item money w h = record { unpaid-least = omega arith; unpaid-most = omega (arith, w .unpaid-most); price-most = w .price-most }
+reduced-bounds item money w h =
+    record { unpaid-least = omega arith; unpaid-most = omega (arith, w .unpaid-most); price-most = w .price-most }
 
 pub entered-bounds : (kind : Kind) (day amount : ℕ) → (isPrice kind ≡ true → amount ≤ mostPrice) → amount ≤ mostInterest
     → Every ItemBounds (entered kind day amount)

@@ -3,7 +3,6 @@ pub mod Limits
 pub mod Interest
 pub mod Settling
 pub mod Posting
-pub mod Oldest
 pub mod Entries
 pub mod Numbers
 pub mod Lanes

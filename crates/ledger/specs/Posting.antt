@@ -80,6 +80,10 @@ abbrev pub stored : Standing → Ledger
 stored s =
     record { count = length (s .open-items); items = pad capacity blank (take capacity (s .open-items)); held = s .held; credit = s .credit }
 
+-- A ledger that holds what stands on it and blanks behind it. Every call from a new account leaves it so.
+abbrev pub Tidy : Ledger → Type 0
+Tidy ledger = ledger ≡ stored (standing ledger)
+
 -- As many items from the front as the money covers, what is left of it for the next, and the interest that they bring.
 unfoldable pub coverage : ℕ → ℕ → List Item → Coverage
 coverage day money items =
@@ -112,9 +116,3 @@ NetBounds net = (chargeOf net ≤ mostPrice) × (creditOf net ≤ mostMoney)
 pub record Ready (s : Standing) : Type 0 where
   pub settled : (s .credit ≡ 0) ⊎ (s .open-items ≡ [])
   pub none-at-zero : Every (λ item. 1 ≤ item .unpaid) (s .open-items)
-
--- A ledger on which such a standing is stored. Inside a call it may count more items than the array shows.
-pub record Stands (ledger : Ledger) : Type 0 where
-  pub on : Standing
-  pub is-stored : ledger ≡ stored on
-  pub is-ready : Ready on

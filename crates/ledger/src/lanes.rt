@@ -2,7 +2,7 @@
 ghost use mathlib.Core.Path.{_≡_};
 ghost use mathlib.Core.List.{_++_};
 ghost use Prim.Native.Nat.{ℕ, _+_, _≤_, _<_};
-ghost use lib.ListN.{length, getD, set, take, drop};
+ghost use lib.ListN.{getD, set, take, drop};
 ghost use Rattle.lists.specs.Pad.{pad};
 ghost use Rattle.lists.specs.Every.{Every};
 ghost use Rattle.ledger.specs.Limits.{lastCallDay, capacity, lanePlaces, mostEnd};

@@ -2,14 +2,11 @@
 ghost use mathlib.Core.Path.{_≡_};
 ghost use mathlib.Core.Bool.{true};
 ghost use mathlib.Core.List.{[]};
-ghost use Prim.Native.Nat.{_+_, _≤_};
-ghost use lib.ListN.{set, take, drop};
-ghost use Rattle.lists.specs.Pad.{pad};
+ghost use Prim.Native.Nat.{_≤_};
 ghost use Rattle.ledger.specs.Interest.{isPrice, body, interestOn};
 ghost use Rattle.ledger.specs.Settling.{unpaidOf};
-ghost use Rattle.ledger.specs.Oldest.{oldest, withOldest};
-ghost use Rattle.ledger.specs.Posting.{stored, standing, entered, post, closed, paid, heldPosted, coverage, blank, chargeOf, creditOf, OpenBounds, LedgerBounds, NetBounds, Stands};
-ghost use Rattle.ledger.specs.Limits.{lastCallDay, capacity, mostPrice, mostMoney};
+ghost use Rattle.ledger.specs.Posting.{stored, standing, chargeOf, creditOf, OpenBounds, NetBounds};
+ghost use Rattle.ledger.specs.Limits.{capacity, mostPrice};
 ghost use Rattle.ledger.specs.Entries.{EntryBounds, Within, Answered};
 
 pub mod lanes;
@@ -155,169 +152,6 @@ impl Ledger {
         }
         sum
     }
-
-    // What is unpaid of the oldest item.
-    pub fn oldest_unpaid(self) -> u64
-        ensures { λ r. ⌜ r ≡ oldest self .unpaid ⌝ }
-    {
-        let item = self.items[0];
-        item.unpaid
-    }
-
-    // Another amount unpaid of the oldest item, and another credit.
-    pub fn with_oldest(mut self, unpaid: u64, credit: u64) -> Ledger
-        ensures { λ r. ⌜ r ≡ withOldest self unpaid credit ⌝ }
-    {
-        let mut item = self.items[0];
-        item.unpaid = unpaid;
-        self.items[0] = item;
-        self.credit = credit;
-        self
-    }
-
-    // As many items from the front as an amount covers: 28.
-    fn cover(self, day: u16, money: u64) -> Coverage
-        requires { ⌜ LedgerBounds self ⌝ }
-        requires { ⌜ day ≤ lastCallDay ⌝ }
-        ensures { λ r. ⌜ r ≡ coverage day money (standing self .open-items) ⌝ }
-    {
-        let count = self.count;
-        let mut left = money;
-        let mut arisen: u64 = 0;
-        let mut i: usize = 0;
-        while i < count {
-            let item = self.items[i];
-            if left < item.unpaid {
-                break;
-            }
-            left -= item.unpaid;
-            arisen += interest_on(item, day);
-            i += 1;
-        }
-        Coverage {
-            covered: i,
-            left: left,
-            arisen: arisen,
-        }
-    }
-
-    // A payment, or money credited: the oldest items are settled first, and what is over is credit.
-    pub fn pay(self, day: u16, yen: u64) -> Ledger
-        requires { ⌜ LedgerBounds self ⌝ }
-        requires { ⌜ day ≤ lastCallDay ⌝ }
-        requires { ⌜ yen ≤ mostMoney ⌝ }
-        ensures { λ r. ⌜ r ≡ stored (paid day yen (standing self)) ⌝ }
-    {
-        let cover = self.cover(day, self.credit + yen);
-        let held = self.held + cover.arisen;
-        let all = self.items;
-        let mut items = rest_of(all, cover.covered, self.count);
-        let rest = self.count - cover.covered;
-        if rest == 0 {
-            return Ledger {
-                count: rest,
-                items: items,
-                held: held,
-                credit: cover.left,
-            };
-        }
-        let mut first = items[0];
-        first.unpaid -= cover.left;
-        items[0] = first;
-        Ledger {
-            count: rest,
-            items: items,
-            held: held,
-            credit: 0,
-        }
-    }
-
-    // An amount above zero becomes an item of the day, less the credit that is there.
-    fn post_item(mut self, kind: Kind, day: u16, amount: u64) -> Ledger
-        requires { ⌜ day ≤ lastCallDay ⌝ }
-        requires { ⌜ self .count ≤ 80 ⌝ }
-        requires { ⌜ Stands self ⌝ }
-        ensures { λ r. ⌜ ((s : Stands self) → r ≡ stored (post day 0 (entered kind day amount) (s .on))) ⌝ }
-    {
-        let credit = self.credit;
-        if amount <= credit {
-            self.credit = credit - amount;
-            return self;
-        }
-        let at = self.count;
-        let all = self.items;
-        let item = Item {
-            amount: amount,
-            unpaid: amount - credit,
-            obligation: day,
-            due: day + TERM,
-            kind: kind,
-        };
-        let items = with_item(all, at, item);
-        Ledger {
-            count: at + 1,
-            items: items,
-            held: self.held,
-            credit: 0,
-        }
-    }
-
-    // A closing: interest held becomes an item, then a net above zero; a net below zero is credited.
-    pub fn close(self, day: u16, net: i32) -> Ledger
-        requires { ⌜ LedgerBounds self ⌝ }
-        requires { ⌜ day ≤ lastCallDay ⌝ }
-        requires { ⌜ NetBounds net ⌝ }
-        ensures { λ r. ⌜ r ≡ stored (closed day net (standing self)) ⌝ }
-    {
-        let held = self.held;
-        let mut ledger = self;
-        ledger.held = 0;
-        ledger
-            .pay(day, credit_of(net))
-            .post_item(Kind::Interest, day, held)
-            .post_item(Kind::Price, day, charge_of(net))
-    }
-
-    // Interest held becomes an item by itself.
-    pub fn post_held(self, day: u16) -> Ledger
-        requires { ⌜ day ≤ lastCallDay ⌝ }
-        requires { ⌜ self .count ≤ 80 ⌝ }
-        requires { ⌜ Stands self ⌝ }
-        ensures { λ r. ⌜ ((s : Stands self) → r ≡ stored (heldPosted day (s .on))) ⌝ }
-    {
-        let held = self.held;
-        let mut ledger = self;
-        ledger.held = 0;
-        ledger.post_item(Kind::Interest, day, held)
-    }
-}
-
-// The items with one more at a place, where the array has it.
-fn with_item(items: [Item; CAPACITY], at: usize, item: Item) -> [Item; CAPACITY]
-    ensures { λ r. ⌜ r ≡ set items at item ⌝ }
-{
-    let mut out = items;
-    if at < 72 {
-        out[at] = item;
-        return out;
-    }
-    out
-}
-
-// The items from a place on, moved to the front.
-fn rest_of(items: [Item; CAPACITY], from: usize, count: usize) -> [Item; CAPACITY]
-    requires { ⌜ count ≤ capacity ⌝ }
-    requires { ⌜ from ≤ count ⌝ }
-    ensures { λ r. ⌜ r ≡ pad capacity blank (drop from (take count items)) ⌝ }
-{
-    let rest = count - from;
-    let mut out = [BLANK; CAPACITY];
-    let mut i: usize = 0;
-    while i < rest {
-        out[i] = items[from + i];
-        i += 1;
-    }
-    out
 }
 
 // The part of a net that is charged.

@@ -3,7 +3,7 @@ use mathlib.Core.Path.{_≡_, refl, sym, ap, subst, _∙_}
 use mathlib.Core.Bool.{true, false≢true}
 use mathlib.Core.List.{List, [], _∷_, _++_}
 use Prim.Native.Nat.{ℕ}
-use Rattle.ledger.specs.Oldest.{Tidy}
+use Rattle.ledger.specs.Posting.{Tidy}
 use Rattle.account.specs.declared.Account.{Account}
 use Rattle.account.specs.declared.Call.{Call}
 use Rattle.account.specs.Calls.{newAccount}

@@ -6,8 +6,10 @@ use Rattle.ledger.proofs.charge_of.Statement.{statement}
 use Rattle.ledger.proofs.charge_of.Tie as tie
 
 cast-result : tie.Need-cast-result
-cast-result c = let fits = c .before .fits .net in
-    rw (toZ-ofZ fits) (nonnegative (c .before .args .net) (rw (toZ-ofZ fits) at (c .if1 .left)), record { fits = omega (arith, magnitude-most (c .before .args .net) fits) })
+cast-result c =
+    let net = c .before .args .net in
+    let fits = c .before .fits .net in
+    rw (toZ-ofZ fits) (nonnegative net (rw (toZ-ofZ fits) at (c .if1 .left)), record { fits = omega (arith, magnitude-most net fits) })
 
 returns : tie.Need-returns
 returns c = sym (charge-negative (c .before .args .net) (rw (toZ-ofZ (c .before .fits .net)) at (c .if1 .taken)))

@@ -1,70 +1,72 @@
-use mathlib.Core.Path.{ap, _≡_, sym}
+-- Interest bears none; a price item none up to its due day and 10 days after; else the product, which fits (`product-most`).
+use mathlib.Core.Path.{_≡_, sym, ap}
 use Prim.Native.Nat.{_-_, _*_, _≤_, _<_, _^_}
-use native.Mathlib.Nat.{le-trans, mul-le-mul}
+use native.Mathlib.Nat.{mul-le-mul}
 use native.Mathlib.Omega.{arith}
 use borrow.Author.Tests.{lt-ltb}
 use borrow.Author.Needs.{needs}
 use Rattle.ledger.specs.declared.Kind.the-variants.{Interest, Price}
-use Rattle.ledger.specs.Interest.{isPrice, interestOn}
+use Rattle.ledger.specs.Limits.{mostPrice}
+use Rattle.ledger.specs.Interest.{isPrice, daysLate, interestOn}
 use Rattle.ledger.proofs.Interest.{body-most, none-in-time, interest-bears-none}
 use Rattle.ledger.proofs.interest_on.Statement.{statement}
 use Rattle.ledger.proofs.interest_on.Tie as tie
 
-product-most : (c : tie.After-body-of) → c .body-of .result * (c .before .before .before .before .before .before .before .args .day - c .before .before .before .before .before .before .before .args .item .due) ≤ 1000000000 * 65535
-product-most c =
-    let price : c .before .before .before .before .before .before .before .args .item .kind ≡ Price = c .before .before .before .before .before .enum-told2 .given .1 in
-    let day : c .before .before .before .before .before .before .before .args .day < 2 ^ 16 = search needs in
-    let late : c .before .before .before .before .before .before .before .args .day - c .before .before .before .before .before .before .before .args .item .due ≤ 65535 = omega arith in
-    let whole : c .body-of .result ≤ 1000000000 = rw (c .body-of .ensures) (le-trans (body-most (c .before .before .before .before .before .before .before .args .item .amount)) (c .before .before .before .before .before .before .before .pre (ap isPrice price))) in
-    mul-le-mul whole late
+-- A price item; its amount is bounded.
+price : (c : tie.After-enum-told2) → c .before .before .args .item .kind ≡ Price
+price c = c .enum-told2 .given .1
 
-enum-told : tie.Need-enum-told
-enum-told c = search needs
+price-most : (c : tie.After-enum-told2) → c .before .before .args .item .amount ≤ mostPrice
+price-most c = c .before .before .pre (ap isPrice (price c))
 
-enum-told-2 : tie.Need-enum-told-2
-enum-told-2 c = search needs
+-- It is settled more than 10 days late.
+module _ (c : tie.After-body-of) where
+  abbrev p : tie.After-enum-told2
+  p = c .before .before .before .before .before
+
+  abbrev s : tie.Start
+  s = p .before .before
+
+  product-most : c .body-of .result * (s .args .day - s .args .item .due) ≤ mostPrice * 65535
+  product-most =
+      let day : s .args .day < 2 ^ 16 = search needs in
+      let late : s .args .day - s .args .item .due ≤ 65535 = omega arith in
+      let whole : c .body-of .result ≤ mostPrice =
+      omega (arith, c .body-of .ensures, body-most (s .args .item .amount), price-most p) in
+      mul-le-mul whole late
 
 returns : tie.Need-returns
-returns c = sym (none-in-time (c .before .before .before .before .args .item) (c .before .before .before .before .args .day) (omega arith))
-
-sub-late : tie.Need-sub-late
-sub-late c = search needs
-
-cast-late : tie.Need-cast-late
-cast-late c = search needs
+returns c = let s : tie.Start = search in sym (none-in-time (s .args .item) (s .args .day) (omega arith))
 
 returns-2 : tie.Need-returns-2
-returns-2 c = sym (none-in-time (c .before .before .before .before .before .before .args .item) (c .before .before .before .before .before .before .args .day) (c .if2 .taken))
-
-body-of-requires : tie.Need-body-of-requires
-body-of-requires c κs = let e : c .before .before .before .before .before .before .args .item .kind ≡ Price = c .before .before .before .before .enum-told2 .given .1 in c .before .before .before .before .before .before .pre (ap isPrice e)
-
-mul-result : tie.Need-mul-result
-mul-result c = omega (arith, product-most c)
-
-mul-result-2 : tie.Need-mul-result-2
-mul-result-2 c = omega (arith, product-most c)
+returns-2 c = let s : tie.Start = search in sym (none-in-time (s .args .item) (s .args .day) (c .if2 .taken))
 
 returns-3 : tie.Need-returns-3
-returns-3 c = let e : c .before .before .args .item .kind ≡ Interest = c .enum-told .given .1 in sym (interest-bears-none (c .before .before .args .item) (c .before .before .args .day) (ap isPrice e))
+returns-3 c =
+    let s = c .before .before in
+    let interest : s .args .item .kind ≡ Interest = c .enum-told .given .1 in
+    sym (interest-bears-none (s .args .item) (s .args .day) (ap isPrice interest))
 
 returns-4 : tie.Need-returns-4
 unfolding interestOn
-returns-4 c = let price : c .before .before .before .before .before .before .before .args .item .kind ≡ Price = c .before .before .before .before .before .enum-told2 .given .1 in
-    rw (price, lt-ltb 10 (c .before .before .before .before .before .before .before .args .day - c .before .before .before .before .before .before .before .args .item .due) (c .before .if2 .left), c .body-of .ensures)
+returns-4 c =
+    let told : tie.After-enum-told2 = search in
+    let s : tie.Start = search in
+    let is : s .args .item .kind ≡ Price = told .enum-told2 .given .1 in
+    rw (is, lt-ltb 10 (daysLate (s .args .item) (s .args .day)) (c .before .if2 .left), c .body-of .ensures)
 
 pub interest-on-spec : {M : Type 1} → statement M
 interest-on-spec =
     tie.close
     (tie.spec
-    enum-told
-    enum-told-2
+    (λ c. search needs)  -- enum-told
+    (λ c. search needs)  -- enum-told-2
     returns
-    sub-late
-    cast-late
+    (λ c. search needs)  -- sub-late
+    (λ c. search needs)  -- cast-late
     returns-2
-    body-of-requires
-    mul-result
-    mul-result-2
+    (λ c κs. let p : tie.After-enum-told2 = search in price-most p)  -- body-of-requires
+    (λ c. omega (arith, product-most c))  -- mul-result
+    (λ c. omega (arith, product-most c))  -- mul-result-2
     returns-3
     returns-4)

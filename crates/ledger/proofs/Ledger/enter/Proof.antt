@@ -39,7 +39,8 @@ enter-requires : tie.Need-enter-requires
 enter-requires c κs =
     let u : tie.After-unpaid2 = search in
     let s = start u in
-    (u .before .spread .ensures .1, (spread-fits (spreads u) (u .unpaid2 .ensures) (s .pre .0), (omega (arith, s .pre .1 .0), s .pre .1 .1)))
+    let fit = spread-fits (spreads u) (u .unpaid2 .ensures) (s .pre .0) in
+    (u .before .spread .ensures .1, (fit, (omega (arith, s .pre .1 .0), s .pre .1 .1)))
 
 returns : tie.Need-returns
 returns c =

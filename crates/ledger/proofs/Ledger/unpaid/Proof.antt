@@ -1,3 +1,4 @@
+-- A sum from the front; each item adds at most what one can owe.
 use mathlib.Core.Path.{_≡_, refl}
 use Prim.Native.Nat.{_-_, _*_, _≤_}
 use native.Mathlib.Omega.{arith}
@@ -6,6 +7,7 @@ use lib.ListN.{length, getD, take}
 use borrow.Author.Needs.{needs}
 use Rattle.lists.proofs.Sum.{total-suc}
 use Rattle.lists.proofs.Pad.{length-of-mapped}
+use Rattle.ledger.specs.Limits.{capacity, mostInterest}
 use Rattle.ledger.specs.Settling.{unpaidOf}
 use Rattle.ledger.specs.Posting.{blank}
 use Rattle.ledger.proofs.Bounds.{bounds-at}
@@ -13,41 +15,48 @@ use Rattle.ledger.proofs.Ledger.unpaid.Statement.{statement}
 use Rattle.ledger.proofs.Ledger.unpaid.Tie as tie
 
 abbrev Inv-loop : tie.InvT-loop
-Inv-loop self count sum₀ i₀ sum i = (i ≤ count) × (sum ≡ unpaidOf (take i (self .items))) × (sum ≤ i * 1000000000000) × (count ≤ 72)
+Inv-loop self count sum₀ i₀ sum i =
+    record {
+      within : i ≤ count;
+      sum-is : sum ≡ unpaidOf (take i (self .items));
+      sum-most : sum ≤ i * mostInterest;
+      count-most : count ≤ capacity;
+    }
 
 abbrev μ-loop : tie.MeasureT-loop
 μ-loop self count sum₀ i₀ sum i = count - i
 
-long : (c : tie.After-struct-known Inv-loop μ-loop) → length (c .before .before .before .before .args .t1 .items) ≡ 72
-long c = search (length-of-mapped, needs)
+abbrev Walk : (tie.InvT-loop → tie.MeasureT-loop → Type 0) → Type 0
+Walk T = T Inv-loop μ-loop
 
-unpaid-most : (c : tie.After-struct-known Inv-loop μ-loop) → getD (c .before .before .before .before .args .t1 .items) (c .before .before .before .loop .i) blank .unpaid ≤ 1000000000000
-unpaid-most c = bounds-at (c .before .before .before .before .args .t1) (c .before .before .before .before .pre) (long c) (c .before .before .before .loop .i) (omega arith) .unpaid-most
+-- In a turn: the item is read.
+module _ (c : Walk tie.After-struct-known) where
+  abbrev l : Walk tie.At-loop
+  l = c .before .before .before
 
-loop-holds : tie.Need-loop-holds Inv-loop μ-loop
-loop-holds c = (omega arith, refl, omega arith, c .pre .count-most)
+  long : length (l .before .args .t1 .items) ≡ capacity
+  long = search (length-of-mapped, needs)
 
-mul-item : tie.Need-mul-item Inv-loop μ-loop
-mul-item c = search needs
+  unpaid-most : getD (l .before .args .t1 .items) (l .loop .i) blank .unpaid ≤ mostInterest
+  unpaid-most = bounds-at (l .before .args .t1) (l .before .pre) long (l .loop .i) (omega arith) .unpaid-most
 
-element-copy-out-item : tie.Need-element-copy-out-item Inv-loop μ-loop
-element-copy-out-item c = search needs
+loop-again : Walk tie.Need-loop-again
+loop-again c =
+    let w : Walk tie.At-loop = search in
+    let i = w .loop .i in
+    let next = total-suc (λ item. item .unpaid) (w .before .args .t1 .items) i blank (omega (arith, long c)) in
+    record {
+      within = omega arith;
+      sum-is = rw (add-one i, next, w .loop .inv .sum-is);
+      sum-most = omega (arith, unpaid-most c, w .loop .inv .sum-most);
+      count-most = w .loop .inv .count-most;
+    }
 
-add-sum : tie.Need-add-sum Inv-loop μ-loop
-add-sum c = omega (arith, unpaid-most c)
-
-add-i : tie.Need-add-i Inv-loop μ-loop
-add-i c = omega arith
-
-loop-less : tie.Need-loop-less Inv-loop μ-loop
-loop-less c = omega arith
-
-loop-again : tie.Need-loop-again Inv-loop μ-loop
-loop-again c = (omega arith, rw (add-one (c .before .before .before .loop .i), total-suc (λ item. item .unpaid) (c .before .before .before .before .args .t1 .items) (c .before .before .before .loop .i) blank (omega (arith, long c)), c .before .before .before .loop .inv .1), omega (arith, unpaid-most c), c .before .before .before .loop .inv .3)
-
-returns : tie.Need-returns Inv-loop μ-loop
-returns c = let done : c .before .loop .i ≡ c .before .before .args .t1 .count = omega arith in
-    rw (← done) (c .before .loop .inv .1)
+returns : Walk tie.Need-returns
+returns c =
+    let w = c .before in
+    let done : w .loop .i ≡ w .before .args .t1 .count = omega (arith, c .loop-test .left, w .loop .inv .within) in
+    rw (← done) (w .loop .inv .sum-is)
 
 pub unpaid-spec : {M : Type 1} → statement M
 unpaid-spec =
@@ -55,11 +64,11 @@ unpaid-spec =
     (tie.spec
     Inv-loop
     μ-loop
-    loop-holds
-    mul-item
-    element-copy-out-item
-    add-sum
-    add-i
-    loop-less
+    (λ c. record { within = omega arith; sum-is = refl; sum-most = omega arith; count-most = c .pre .count-most })  -- loop-holds
+    (λ c. search needs)  -- mul-item
+    (λ c. let w : Walk tie.At-loop = search in omega (arith, w .loop .inv .count-most))  -- element-copy-out-item
+    (λ c. let w : Walk tie.At-loop = search in omega (arith, unpaid-most c, w .loop .inv .sum-most, w .loop .inv .count-most))  -- add-sum
+    (λ c. omega arith)  -- add-i
+    (λ c. omega arith)  -- loop-less
     loop-again
     returns)

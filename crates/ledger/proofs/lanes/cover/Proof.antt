@@ -1,95 +1,107 @@
-use mathlib.Core.Path.{_≡_, refl, sym, ap, _∙_, subst}
-use mathlib.Core.List.{List, _++_}
-use Prim.Native.Nat.{ℕ, _+_, _-_, _*_, _≤_, _<_}
+-- Settling as a walk over the items where they lie (`Covered`): each item that the money covers brings its interest.
+use mathlib.Core.Path.{_≡_}
+use mathlib.Core.List.{List}
+use Prim.Native.Nat.{_+_, _-_, _≤_, _<_}
 use native.Mathlib.Omega.{arith}
 use native.Mathlib.Numerals.{add-one}
 use lib.ListN.{length, getD, drop, length-drop}
-use borrow.Author.Needs.{needs}
+use lib.Seq.{length-take-le}
+use Rattle.lists.proofs.Every.{every-at}
+use Rattle.ledger.specs.declared.Item.{Item}
 use Rattle.ledger.specs.Limits.{mostArisen}
 use Rattle.ledger.specs.Posting.{blank, ItemBounds}
 use Rattle.ledger.specs.Lanes.{rows}
-use Rattle.ledger.proofs.Rows.{rows-long}
-use lib.Seq.{length-take-le}
-use Rattle.ledger.specs.declared.Item.{Item}
+use Rattle.ledger.proofs.Interest.{interest-most}
+use Rattle.ledger.proofs.Cover.{covering-first, covering-all, covering-short}
 use Rattle.ledger.proofs.Places.{part}
 use Rattle.ledger.proofs.Queues.{Covered, covered-on, at-is}
-use Rattle.ledger.proofs.Cover.{covering-first, covering-all, covering-short}
-use Rattle.ledger.proofs.Interest.{interest-most}
-use Rattle.lists.proofs.Every.{every-at}
+use Rattle.ledger.proofs.Rows.{rows-long}
 use Rattle.ledger.proofs.lanes.cover.Statement.{statement}
 use Rattle.ledger.proofs.lanes.cover.Tie as tie
 
 abbrev Inv-loop : tie.InvT-loop
-Inv-loop unpaid amount label front count day money left₀ arisen₀ covered₀ left arisen covered = Covered (part front count (rows unpaid amount label)) day money left arisen covered
+Inv-loop unpaid amount label front count day money left₀ arisen₀ covered₀ left arisen covered =
+    Covered (part front count (rows unpaid amount label)) day money left arisen covered
 
 abbrev μ-loop : tie.MeasureT-loop
 μ-loop unpaid amount label front count day money left₀ arisen₀ covered₀ left arisen covered = count - covered
 
-abbrev At : Type 0
-At = tie.At-loop Inv-loop μ-loop
+abbrev Walk : (tie.InvT-loop → tie.MeasureT-loop → Type 0) → Type 0
+Walk T = T Inv-loop μ-loop
 
-abbrev items : At → List Item
-items l = rows (l .before .args .unpaid .now) (l .before .args .amount .now) (l .before .args .label .now)
+-- Where the next item is looked at.
+module _ (l : Walk tie.At-loop) where
+  abbrev s : Walk tie.Start
+  s = l .before
 
-long : (l : At) → length (part (l .before .args .front) (l .before .args .count) (items l)) ≡ l .before .args .count
-long l =
-    let s = l .before in
-    length-take-le (s .args .count) (drop (s .args .front) (items l)) (rw (length-drop (s .args .front) (items l), rows-long (s .pre .0)) (omega (arith, s .pre .1 .0)))
+  abbrev items : List Item
+  items = rows (s .args .unpaid .now) (s .args .amount .now) (s .args .label .now)
 
-item-bounds : (l : At) → l .loop .covered < l .before .args .count → ItemBounds (getD (items l) (l .before .args .front + l .loop .covered) blank)
-item-bounds l h =
-    let s = l .before in
-    rw (at-is (items l) (s .args .front) (s .args .count) (l .loop .covered) h) at
-    (every-at ItemBounds (part (s .args .front) (s .args .count) (items l)) (l .loop .covered) blank (rw (long l) h) (s .pre .1 .1 .1 .1))
+  abbrev open-items : List Item
+  open-items = part (s .args .front) (s .args .count) items
 
-interest-within : (c : tie.After-interest-on Inv-loop μ-loop) → c .interest-on .result ≤ mostArisen
-interest-within c =
-    let l = c .before .before .before .before .before .before in
-    rw (c .interest-on .ensures, c .before .before .before .before .get .ensures)
-    (interest-most (getD (items l) (l .before .args .front + l .loop .covered) blank) (l .before .args .day) (item-bounds l (c .before .before .before .before .before .loop-test .taken) .price-most) (l .before .pre .1 .1 .1 .0))
+  abbrev item : Item
+  item = getD items (s .args .front + l .loop .covered) blank
 
-loop-holds : tie.Need-loop-holds Inv-loop μ-loop
-loop-holds c = record { interest = omega arith; covering = covering-first _ _ _ }
+  long : length open-items ≡ s .args .count
+  long =
+      length-take-le (s .args .count) (drop (s .args .front) items)
+      (rw (length-drop (s .args .front) items, rows-long (s .pre .0)) (omega (arith, s .pre .1 .0)))
 
-add-get : tie.Need-add-get Inv-loop μ-loop
-add-get c = record { fits = omega arith }
+  same : l .loop .covered < s .args .count → getD open-items (l .loop .covered) blank ≡ item
+  same h = at-is items (s .args .front) (s .args .count) (l .loop .covered) h
 
-get-requires : tie.Need-get-requires Inv-loop μ-loop
-get-requires c κs = (c .before .before .pre .0, omega arith)
+  bounds : l .loop .covered < s .args .count → ItemBounds item
+  bounds h = rw (same h) at (every-at ItemBounds open-items (l .loop .covered) blank (rw long h) (s .pre .1 .1 .1 .1))
 
-interest-on-requires : tie.Need-interest-on-requires Inv-loop μ-loop
-interest-on-requires c κs = rw (c .before .before .before .get .ensures) (item-bounds (c .before .before .before .before .before) (c .before .before .before .before .loop-test .taken) .price-most)
+-- One that the money covers: its interest is known.
+abbrev looked : Walk tie.After-interest-on → Walk tie.After-get
+looked c = c .before .before .before .before
 
-add-arisen : tie.Need-add-arisen Inv-loop μ-loop
+abbrev at-loop : Walk tie.After-get → Walk tie.At-loop
+at-loop g = g .before .before
+
+interest-is-within : (c : Walk tie.After-interest-on) → c .interest-on .result ≤ mostArisen
+interest-is-within c =
+    let g = looked c in
+    let l = at-loop g in
+    rw (c .interest-on .ensures, g .get .ensures)
+    (interest-most (item l) (s l .args .day) (bounds l (g .before .loop-test .taken) .price-most) (s l .pre .1 .1 .1 .0))
+
+interest-on-requires : Walk tie.Need-interest-on-requires
+interest-on-requires c κs =
+    let g : Walk tie.After-get = search in
+    rw (g .get .ensures) (bounds (at-loop g) (g .before .loop-test .taken) .price-most)
+
+add-arisen : Walk tie.Need-add-arisen
 add-arisen c =
-    let l = c .before .before .before .before .before .before in
-    let h = c .before .before .before .before .before .loop-test .taken in
-    record { fits = omega (arith, interest-within c, l .loop .inv .interest, h, l .before .pre .1 .1 .0) }
+    let g = looked c in
+    let l = at-loop g in
+    record { fits = omega (arith, interest-is-within c, l .loop .inv .interest, g .before .loop-test .taken, s l .pre .1 .1 .0) }
 
-add-covered : tie.Need-add-covered Inv-loop μ-loop
-add-covered c = omega arith
-
-loop-less : tie.Need-loop-less Inv-loop μ-loop
-loop-less c = omega arith
-
-loop-again : tie.Need-loop-again Inv-loop μ-loop
+loop-again : Walk tie.Need-loop-again
 loop-again c =
-    let l = c .before .before .before .before .before .before in
-    let s = l .before in
-    rw (add-one (l .loop .covered), c .interest-on .ensures, c .before .before .before .before .get .ensures)
-    (covered-on (items l) (s .args .day) (s .args .money) (l .loop .left) (l .loop .arisen) (l .loop .covered) (s .args .front) (s .args .count) (s .pre .1 .1 .1 .0) (s .pre .1 .1 .1 .1) (long l) (c .before .before .before .before .before .loop-test .taken) (l .loop .inv) (rw (c .before .before .before .before .get .ensures) at (c .before .before .if1 .left)))
+    let g : Walk tie.After-get = search in
+    let l : Walk tie.At-loop = search in
+    let a = s l .args in
+    rw (add-one (l .loop .covered), c .interest-on .ensures, g .get .ensures)
+    (covered-on (items l) (a .day) (a .money) (l .loop .left) (l .loop .arisen) (l .loop .covered) (a .front) (a .count)
+    (s l .pre .1 .1 .1 .0) (s l .pre .1 .1 .1 .1) (long l) (g .before .loop-test .taken) (l .loop .inv)
+    (rw (g .get .ensures) at (c .before .before .if1 .left)))
 
-returns : tie.Need-returns Inv-loop μ-loop
+-- all are covered
+returns : Walk tie.Need-returns
 returns c =
     let l = c .before in
     covering-all _ _ _ _ _ _ (l .loop .inv .covering) (omega (arith, c .loop-test .left, l .loop .inv .covering .within, long l))
 
-returns-2 : tie.Need-returns-2 Inv-loop μ-loop
+-- the next is not
+returns-2 : Walk tie.Need-returns-2
 returns-2 c =
-    let l = c .before .before .before .before in
-    let s = l .before in
-    let h = c .before .before .before .loop-test .taken in
-    covering-short _ _ _ _ _ _ (l .loop .inv .covering) (omega (arith, h, long l)) (rw (at-is (items l) (s .args .front) (s .args .count) (l .loop .covered) h) (rw (c .before .before .get .ensures) at (c .if1 .taken)))
+    let g : Walk tie.After-get = search in
+    let l = at-loop g in
+    let h = g .before .loop-test .taken in
+    covering-short _ _ _ _ _ _ (l .loop .inv .covering) (omega (arith, h, long l)) (rw (same l h) (rw (g .get .ensures) at (c .if1 .taken)))
 
 pub cover-spec : {M : Type 1} → statement M
 cover-spec =
@@ -97,13 +109,13 @@ cover-spec =
     (tie.spec
     Inv-loop
     μ-loop
-    loop-holds
-    add-get
-    get-requires
+    (λ c. record { interest = omega arith; covering = covering-first _ _ _ })  -- loop-holds
+    (λ c. record { fits = omega arith })  -- add-get
+    (λ c κs. (c .before .before .pre .0, omega arith))  -- get-requires
     interest-on-requires
     add-arisen
-    add-covered
-    loop-less
+    (λ c. omega arith)  -- add-covered
+    (λ c. omega arith)  -- loop-less
     loop-again
     returns
     returns-2)

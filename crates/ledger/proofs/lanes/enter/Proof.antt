@@ -3,7 +3,7 @@
 -- What then lies there is what the numbers say, and by `after-stands` and `after-lies` that is what the definition says.
 use mathlib.Core.Path.{_≡_, sym, ap, _∙_}
 use mathlib.Core.List.{List, _++_}
-use Prim.Native.Nat.{ℕ, _+_, _-_, _≤_, _<_}
+use Prim.Native.Nat.{_+_, _-_, _≤_, _<_}
 use native.Mathlib.Omega.{arith}
 use lib.ListN.{length, getD, set, length-set}
 use borrow.Author.Needs.{needs}
@@ -83,6 +83,13 @@ paid-lie d =
     part-oldest (oldest k) (staying k) paid (k .entering .items) in-rows ∙
     ap (lessPaid paid) (part-later (q .front) (q .count) (k .entering .cover .covered) (k .entering .items))
 
+owes-it : (d : tie.After-settle-numbers) →
+    let k = settling d in
+    k .settled .paid ≤ getD (begun (d .before) .args .unpaid .now) (oldest k) 0
+owes-it d =
+    let k = settling d in
+    rw (row-unpaid (begun (d .before) .pre .0) (oldest k) (inside (k .entering))) at (oldest-within k)
+
 held-lie : (c : tie.After-post-item) →
     let k = work c in
     part (oldest k) (staying k + places (k .settled .heldleft)) (rows-in (c .post-item .last)) ≡ stayed k ++ held-item k
@@ -157,12 +164,6 @@ returns c =
       s .pre .0,
     )
 
-sub-unpaid : tie.Need-sub-unpaid
-sub-unpaid c =
-    let d : tie.After-settle-numbers = search in
-    let k = settling d in
-    rw (row-unpaid (begun (d .before) .pre .0) (oldest k) (inside (k .entering))) at (oldest-within k)
-
 post-item-requires : tie.Need-post-item-requires
 post-item-requires c κs =
     let s : tie.Start = search in
@@ -227,7 +228,7 @@ enter-spec =
     (λ c. let k : tie.After-cover = search in record { fits = omega (arith, inside (entering k)) })  -- add-at
     (λ c. let k : tie.After-cover = search in record { fits = omega (arith, inside (entering k)) })  -- mul-unpaid
     (λ c. let k : tie.After-cover = search in inside (entering k))  -- element-copy-out-unpaid
-    sub-unpaid
+    (λ c. let d : tie.After-settle-numbers = search in owes-it d)  -- sub-unpaid
     (λ c. let k : tie.After-cover = search in inside (entering k))  -- element-write-unpaid
     (λ c. let s : tie.Start = search in record { fits = omega (arith, s .pre .1 .1 .0) })  -- add-first
     post-item-requires

@@ -1,49 +1,38 @@
-use mathlib.Core.Path.{_≡_, refl}
+-- Two days below 65,536 and the kind above them: the label is read back (`label-back`).
+use mathlib.Core.Path.{refl}
 use Prim.Native.Nat.{_<_}
 use native.Mathlib.Omega.{arith}
+use borrow.Author.Needs.{needs}
 use Rattle.ledger.specs.Lanes.{labelOf}
 use Rattle.ledger.proofs.Rows.{label-back, kind-most}
-use borrow.Author.Needs.{needs}
 use Rattle.ledger.proofs.lanes.label_of.Statement.{statement}
 use Rattle.ledger.proofs.lanes.label_of.Tie as tie
 
-cast-result : tie.Need-cast-result
-cast-result c = search needs
+obligation-fits : (s : tie.Start) → s .args .item .obligation < 65536
+obligation-fits s = search needs
 
-cast-result-2 : tie.Need-cast-result-2
-cast-result-2 c = search needs
+due-fits : (s : tie.Start) → s .args .item .due < 65536
+due-fits s = search needs
 
-mul-result : tie.Need-mul-result
-mul-result c = search needs
-
-add-result : tie.Need-add-result
-add-result c = search needs
-
-kind-label-requires : tie.Need-kind-label-requires
-kind-label-requires c κs = search needs
-
-add-result-2 : tie.Need-add-result-2
-add-result-2 c =
-    let s = c .before .before .before in
-    let o : s .args .item .obligation < 65536 = search needs in
-    let d : s .args .item .due < 65536 = search needs in
-    record { fits = omega (arith, o, d, c .kind-label .ensures, kind-most (s .args .item .kind)) }
+add-kind : tie.Need-add-result-2
+add-kind c =
+    let s : tie.Start = search in
+    record { fits = omega (arith, obligation-fits s, due-fits s, c .kind-label .ensures, kind-most (s .args .item .kind)) }
 
 returns : tie.Need-returns
+unfolding labelOf
 returns c =
-    let s = c .before .before .before in
-    let o : s .args .item .obligation < 65536 = search needs in
-    let d : s .args .item .due < 65536 = search needs in
-    (unfold labelOf in rw (c .kind-label .ensures) refl, (unfold labelOf in rw (c .kind-label .ensures) (label-back (s .args .item) o d)))
+    let s : tie.Start = search in
+    (rw (c .kind-label .ensures) refl, rw (c .kind-label .ensures) (label-back (s .args .item) (obligation-fits s) (due-fits s)))
 
 pub label-of-spec : {M : Type 1} → statement M
 label-of-spec =
     tie.close
     (tie.spec
-    cast-result
-    cast-result-2
-    mul-result
-    add-result
-    kind-label-requires
-    add-result-2
+    (λ c. search needs)  -- cast-result
+    (λ c. search needs)  -- cast-result-2
+    (λ c. search needs)  -- mul-result
+    (λ c. search needs)  -- add-result
+    (λ c κs. search needs)  -- kind-label-requires
+    add-kind
     returns)

@@ -1,15 +1,16 @@
-use mathlib.Core.Path.{_≡_, refl, sym, ap, _∙_, subst}
+-- The front of the lanes is filled item by item (`fill-next`).
+use mathlib.Core.Path.{_≡_, refl, sym, ap, _∙_}
 use mathlib.Core.List.{List, _++_}
-use Prim.Native.Nat.{ℕ, _+_, _-_, _*_, _≤_, _<_}
+use Prim.Native.Nat.{_-_, _≤_}
 use native.Mathlib.Omega.{arith}
 use native.Mathlib.Numerals.{add-one}
+use lib.ListN.{length, getD, set, take, drop}
 use lib.Seq.{take-all, take-at}
+use borrow.Author.Needs.{needs}
 use Rattle.lists.proofs.Pad.{length-of-mapped}
 use Rattle.ledger.specs.declared.Item.{Item}
-use lib.ListN.{length, getD, set, take, drop}
-use borrow.Author.Needs.{needs}
-use Rattle.ledger.specs.Limits.{capacity, lanePlaces}
-use Rattle.ledger.specs.Posting.{blank, ItemBounds}
+use Rattle.ledger.specs.Limits.{capacity}
+use Rattle.ledger.specs.Posting.{blank}
 use Rattle.ledger.specs.Lanes.{rows, Long}
 use Rattle.ledger.proofs.Rows.{rows-long, fill-next}
 use Rattle.ledger.proofs.lanes.spread.Statement.{statement}
@@ -17,54 +18,50 @@ use Rattle.ledger.proofs.lanes.spread.Tie as tie
 
 abbrev Inv-loop : tie.InvT-loop
 Inv-loop unpaid₀ amount₀ label₀ items i₀ unpaid amount label i =
-    Long unpaid amount label × (i ≤ capacity) × (rows unpaid amount label ≡ take i items ++ drop i (rows unpaid₀ amount₀ label₀))
+    record {
+      lanes : Long unpaid amount label;
+      within : i ≤ capacity;
+      filled : rows unpaid amount label ≡ take i items ++ drop i (rows unpaid₀ amount₀ label₀);
+    }
 
 abbrev μ-loop : tie.MeasureT-loop
 μ-loop unpaid₀ amount₀ label₀ items i₀ unpaid amount label i = capacity - i
 
-abbrev old : tie.At-loop Inv-loop μ-loop → List Item
-old l = rows (l .before .args .unpaid .now) (l .before .args .amount .now) (l .before .args .label .now)
+abbrev Walk : (tie.InvT-loop → tie.MeasureT-loop → Type 0) → Type 0
+Walk T = T Inv-loop μ-loop
 
-loop-holds : tie.Need-loop-holds Inv-loop μ-loop
-loop-holds c = (c .pre, omega arith, refl)
+module _ (l : Walk tie.At-loop) where
+  abbrev items : List Item
+  items = l .before .args .t1
 
-mul-put : tie.Need-mul-put Inv-loop μ-loop
-mul-put c = search needs
+  abbrev old : List Item
+  old = rows (l .before .args .unpaid .now) (l .before .args .amount .now) (l .before .args .label .now)
 
-array-copy-out-put : tie.Need-array-copy-out-put Inv-loop μ-loop
-array-copy-out-put c = omega arith
+  long : length items ≡ capacity
+  long = search (length-of-mapped, needs)
 
-put-requires : tie.Need-put-requires Inv-loop μ-loop
-put-requires c κs = (c .before .before .before .before .before .loop .inv .0, omega arith)
-
-add-i : tie.Need-add-i Inv-loop μ-loop
-add-i c = omega arith
-
-loop-less : tie.Need-loop-less Inv-loop μ-loop
-loop-less c = omega arith
-
-loop-again : tie.Need-loop-again Inv-loop μ-loop
+loop-again : Walk tie.Need-loop-again
 loop-again c =
-    let l = c .before .before .before .before .before .before in
-    let s = l .before in
+    let l : Walk tie.At-loop = search in
     let i = l .loop .i in
-    let items : length (s .args .t1) ≡ capacity = search (length-of-mapped, needs) in
-    let long : length (old l) ≡ lanePlaces = rows-long (s .pre) in (
-      c .put .ensures .1,
-      omega arith,
-      c .put .ensures .0 ∙ ap (λ xs. set xs i (getD (s .args .t1) i blank)) (l .loop .inv .2) ∙ fill-next (s .args .t1) (old l) blank i (omega arith) (omega arith) ∙
-          ap (λ n. take n (s .args .t1) ++ drop n (old l)) (sym (add-one i)),
-    )
+    let next = fill-next (items l) (old l) blank i (omega (arith, long l)) (omega (arith, long l, rows-long (l .before .pre))) in
+    record {
+      lanes = c .put .ensures .1;
+      within = omega arith;
+      filled =
+          c .put .ensures .0 ∙ ap (λ xs. set xs i (getD (items l) i blank)) (l .loop .inv .filled) ∙ next ∙
+          ap (λ n. take n (items l) ++ drop n (old l)) (sym (add-one i));
+    }
 
-returns : tie.Need-returns Inv-loop μ-loop
+returns : Walk tie.Need-returns
 returns c =
     let l = c .before in
-    let s = l .before in
-    let items : length (s .args .t1) ≡ capacity = search (length-of-mapped, needs) in
-    let done : l .loop .i ≡ capacity = omega (arith, c .loop-test .left, l .loop .inv .1) in
-    let all : take capacity (s .args .t1) ≡ s .args .t1 = take-all capacity (s .args .t1) (omega arith) in (
-      ap (take capacity) (l .loop .inv .2 ∙ ap (λ n. take n (s .args .t1) ++ drop n (old l)) done ∙ ap (λ xs. xs ++ drop capacity (old l)) all) ∙ take-at (s .args .t1) (drop capacity (old l)) capacity items,
-      l .loop .inv .0,
+    let done : l .loop .i ≡ capacity = omega (arith, c .loop-test .left, l .loop .inv .within) in
+    let all : take capacity (items l) ≡ items l = take-all capacity (items l) (omega (arith, long l)) in (
+      ap (take capacity)
+          (l .loop .inv .filled ∙ ap (λ n. take n (items l) ++ drop n (old l)) done ∙ ap (λ xs. xs ++ drop capacity (old l)) all) ∙
+          take-at (items l) (drop capacity (old l)) capacity (long l),
+      l .loop .inv .lanes,
     )
 
 pub spread-spec : {M : Type 1} → statement M
@@ -73,11 +70,11 @@ spread-spec =
     (tie.spec
     Inv-loop
     μ-loop
-    loop-holds
-    mul-put
-    array-copy-out-put
-    put-requires
-    add-i
-    loop-less
+    (λ c. record { lanes = c .pre; within = omega arith; filled = refl })  -- loop-holds
+    (λ c. search needs)  -- mul-put
+    (λ c. omega arith)  -- array-copy-out-put
+    (λ c κs. let l : Walk tie.At-loop = search in (l .loop .inv .lanes, omega arith))  -- put-requires
+    (λ c. omega arith)  -- add-i
+    (λ c. omega arith)  -- loop-less
     loop-again
     returns)

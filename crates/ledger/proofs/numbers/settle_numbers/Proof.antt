@@ -1,116 +1,165 @@
+-- The steps one after another; each leaves at most one more open item, and owes at most its amount more (`Steps`).
+use mathlib.Core.Path.{sym, subst}
 use Prim.Native.Nat.{_+_, _-_, _≤_}
 use native.Mathlib.Omega.{arith}
 use borrow.Author.Needs.{needs}
+use Rattle.ledger.specs.declared.numbers.Step.{Step}
 use Rattle.ledger.specs.Numbers.{tallyIn, settledBy}
 use Rattle.ledger.proofs.Steps.{cond-most, StepMost, posting-most, paying-most}
 use Rattle.ledger.proofs.numbers.settle_numbers.Statement.{statement}
 use Rattle.ledger.proofs.numbers.settle_numbers.Tie as tie
 
-pay-most : (c : tie.After-pay) → StepMost (c .pay .result) (c .before .before .before .args .queue .count) (c .before .before .before .args .queue .owed)
+-- Places: money has come in, interest held is asked and posted, the charge, and the interest that arose.
+abbrev start : tie.After-pay → tie.Start
+start c = c .before .before .before
+
+abbrev paid : tie.After-only → tie.After-pay
+paid c = c .before .before
+
+abbrev held : tie.After-post → tie.After-only
+held c = c .before
+
+abbrev with-held : tie.After-only2 → tie.After-post
+with-held c = c .before .before
+
+abbrev charge : tie.After-post2 → tie.After-only2
+charge c = c .before
+
+abbrev with-charge : tie.After-only3 → tie.After-post2
+with-charge c = c .before .before .before .before
+
+pay-most : (c : tie.After-pay) → StepMost (c .pay .result) (start c .args .queue .count) (start c .args .queue .owed)
 pay-most c =
-    let s = c .before .before .before in
-    rw (c .pay .ensures) (paying-most (tallyIn (s .args .queue)) (s .args .queue .credit + s .args .entry .money) (s .args .cover))
+    let s = start c in
+    subst (λ (x : Step). StepMost x (s .args .queue .count) (s .args .queue .owed)) (sym (c .pay .ensures))
+    (paying-most (tallyIn (s .args .queue)) (s .args .queue .credit + s .args .entry .money) (s .args .cover))
 
-post-most : (c : tie.After-post) → StepMost (c .post .result) (c .before .before .before .pay .result .tally .count + 1) (c .before .before .before .pay .result .tally .owed + c .before .only .result)
-post-most c = rw (c .post .ensures) (posting-most (c .before .before .before .pay .result .tally) (c .before .only .result))
+post-most : (c : tie.After-post) →
+    let before = paid (held c) .pay .result .tally in
+    StepMost (c .post .result) (before .count + 1) (before .owed + held c .only .result)
+post-most c =
+    let before = paid (held c) .pay .result .tally in
+    let amount = held c .only .result in
+    subst (λ (x : Step). StepMost x (before .count + 1) (before .owed + amount)) (sym (c .post .ensures)) (posting-most before amount)
 
-post-most-2 : (c : tie.After-post2) → StepMost (c .post2 .result) (c .before .before .before .post .result .tally .count + 1) (c .before .before .before .post .result .tally .owed + c .before .only2 .result)
-post-most-2 c = rw (c .post2 .ensures) (posting-most (c .before .before .before .post .result .tally) (c .before .only2 .result))
+post-most-2 : (c : tie.After-post2) →
+    let before = with-held (charge c) .post .result .tally in
+    StepMost (c .post2 .result) (before .count + 1) (before .owed + charge c .only2 .result)
+post-most-2 c =
+    let before = with-held (charge c) .post .result .tally in
+    let amount = charge c .only2 .result in
+    subst (λ (x : Step). StepMost x (before .count + 1) (before .owed + amount)) (sym (c .post2 .ensures)) (posting-most before amount)
 
-held-most : (c : tie.After-only) → c .only .result ≤ c .before .before .before .before .before .args .queue .held
-held-most c = let s = c .before .before .before .before .before in rw (c .only .ensures) (cond-most (s .args .entry .closes) (s .args .queue .held))
+held-most : (c : tie.After-only) → c .only .result ≤ start (paid c) .args .queue .held
+held-most c = let s = start (paid c) in omega (arith, c .only .ensures, cond-most (s .args .entry .closes) (s .args .queue .held))
 
-charge-most : (c : tie.After-only2) → c .only2 .result ≤ c .before .before .before .before .before .before .before .before .args .entry .charge
-charge-most c = let s = c .before .before .before .before .before .before .before .before in rw (c .only2 .ensures) (cond-most (s .args .entry .closes) (s .args .entry .charge))
+charge-most : (c : tie.After-only2) → c .only2 .result ≤ start (paid (held (with-held c))) .args .entry .charge
+charge-most c =
+    let s = start (paid (held (with-held c))) in
+    omega (arith, c .only2 .ensures, cond-most (s .args .entry .closes) (s .args .entry .charge))
 
-arisen-most : (c : tie.After-only3) → c .only3 .result ≤ c .before .before .before .before .before .before .before .before .before .before .before .before .before .args .queue .held - c .before .before .before .before .before .before .before .before .only .result + c .before .before .before .before .before .before .before .before .before .before .before .before .before .args .cover .arisen
-arisen-most c =
-    let s = c .before .before .before .before .before .before .before .before .before .before .before .before .before in
-    rw (c .only3 .ensures) (cond-most (s .args .entry .posts) (s .args .queue .held - c .before .before .before .before .before .before .before .before .only .result + s .args .cover .arisen))
+-- What stays held once interest held is posted, with what arose.
+module _ (c : tie.After-only3) where
+  abbrev first : tie.After-only
+  first = held (with-held (charge (with-charge c)))
 
-add-pay : tie.Need-add-pay
-add-pay c = search needs
+  abbrev s : tie.Start
+  s = start (paid first)
 
-pay-requires : tie.Need-pay-requires
-pay-requires c κs = search needs
-
-only-requires : tie.Need-only-requires
-only-requires c κs = search needs
+  arisen-most : c .only3 .result ≤ s .args .queue .held - first .only .result + s .args .cover .arisen
+  arisen-most =
+      let kept = s .args .queue .held - first .only .result + s .args .cover .arisen in
+      omega (arith, c .only3 .ensures, cond-most (s .args .entry .posts) kept)
 
 post-requires : tie.Need-post-requires
 post-requires c κs =
-    let s = c .before .before .before .before .before in
-    let p = pay-most (c .before .before) in
-    (omega (arith, p .count-most, s .pre .count-most), (omega (arith, p .owed-most, s .pre .owed-most), omega (arith, held-most c, s .pre .held-most)))
-
-only-requires-2 : tie.Need-only-requires-2
-only-requires-2 c κs = search needs
+    let b = start (paid c) .pre in
+    let p = pay-most (paid c) in (
+      omega (arith, p .count-most, b .count-most),
+      (omega (arith, p .owed-most, b .owed-most), omega (arith, held-most c, b .held-most)),
+    )
 
 post-requires-2 : tie.Need-post-requires-2
 post-requires-2 c κs =
-    let s = c .before .before .before .before .before .before .before .before in
-    let p = pay-most (c .before .before .before .before .before) in
-    let q = post-most (c .before .before) in
-    (omega (arith, p .count-most, q .count-most, s .pre .count-most), (omega (arith, p .owed-most, q .owed-most, held-most (c .before .before .before), s .pre .owed-most, s .pre .held-most), omega (arith, charge-most c, s .pre .charge-most)))
-
-sub-kept : tie.Need-sub-kept
-sub-kept c = held-most (c .before .before .before .before .before .before)
-
-add-kept : tie.Need-add-kept
-add-kept c = search needs
-
-only-requires-3 : tie.Need-only-requires-3
-only-requires-3 c κs = search needs
+    let h = held (with-held c) in
+    let b = start (paid h) .pre in
+    let p = pay-most (paid h) in
+    let q = post-most (with-held c) in (
+      omega (arith, p .count-most, q .count-most, b .count-most),
+      (
+        omega (arith, p .owed-most, q .owed-most, held-most h, b .owed-most, b .held-most),
+        omega (arith, charge-most c, b .charge-most),
+      ),
+    )
 
 post-requires-3 : tie.Need-post-requires-3
 post-requires-3 c κs =
-    let s = c .before .before .before .before .before .before .before .before .before .before .before .before .before in
-    let p = pay-most (c .before .before .before .before .before .before .before .before .before .before) in
-    let q = post-most (c .before .before .before .before .before .before .before) in
-    let r = post-most-2 (c .before .before .before .before) in (
-      omega (arith, p .count-most, q .count-most, r .count-most, s .pre .count-most),
-      (omega (arith, p .owed-most, q .owed-most, r .owed-most, held-most (c .before .before .before .before .before .before .before .before), charge-most (c .before .before .before .before .before), s .pre .owed-most, s .pre .held-most, s .pre .charge-most), omega (arith, arisen-most c, s .pre .held-most, s .pre .arisen-most)),
+    let d = charge (with-charge c) in
+    let h = first c in
+    let b = s c .pre in
+    let p = pay-most (paid h) in
+    let q = post-most (with-held d) in
+    let r = post-most-2 (with-charge c) in (
+      omega (arith, p .count-most, q .count-most, r .count-most, b .count-most),
+      (
+        omega (
+          arith,
+          p .owed-most,
+          q .owed-most,
+          r .owed-most,
+          held-most h,
+          charge-most d,
+          b .owed-most,
+          b .held-most,
+          b .charge-most,
+        ),
+        omega (arith, arisen-most c, b .held-most, b .arisen-most),
+      ),
     )
 
-limit-number-requires : tie.Need-limit-number-requires
-limit-number-requires c κs = search needs
-
-add-t19 : tie.Need-add-t19
-add-t19 c = let s = c .before .before .before .before .before .before .before .before .before .before .before .before .before .before .before .before .before .before in record { fits = omega (arith, s .pre .front-most, s .pre .count-most, s .pre .covered-most) }
-
-sub-t17 : tie.Need-sub-t17
-sub-t17 c = arisen-most (c .before .before .before .before .before)
+add-front : tie.Need-add-t19
+add-front c =
+    let k : tie.After-only3 = search in
+    let b = s k .pre in
+    record { fits = omega (arith, b .front-most, b .count-most, b .covered-most) }
 
 returns : tie.Need-returns
 unfolding settledBy
 returns c =
-    let l = c .before .before .before .before in
+    let limit : tie.After-limit-number = search in
+    let third : tie.After-post3 = search in
+    let arisen : tie.After-only3 = search in
+    let second : tie.After-post2 = search in
+    let asked : tie.After-only2 = search in
+    let one : tie.After-post = search in
+    let held : tie.After-only = search in
+    let paid : tie.After-pay = search in
     rw (
-      c .before .before .limit-number .ensures,
-      l .post3 .ensures,
-      l .before .only3 .ensures,
-      l .before .before .before .before .before .post2 .ensures,
-      l .before .before .before .before .before .before .only2 .ensures,
-      l .before .before .before .before .before .before .before .before .post .ensures,
-      l .before .before .before .before .before .before .before .before .before .only .ensures,
-      l .before .before .before .before .before .before .before .before .before .before .before .pay .ensures,
+      limit .limit-number .ensures,
+      third .post3 .ensures,
+      arisen .only3 .ensures,
+      second .post2 .ensures,
+      asked .only2 .ensures,
+      one .post .ensures,
+      held .only .ensures,
+      paid .pay .ensures,
     )
 
 pub settle-numbers-spec : {M : Type 1} → statement M
 settle-numbers-spec =
     tie.close
     (tie.spec
-    add-pay
-    pay-requires
-    only-requires
+    (λ c. search needs)  -- add-pay
+    (λ c κs. search needs)  -- pay-requires
+    (λ c κs. search needs)  -- only-requires
     post-requires
-    only-requires-2
+    (λ c κs. search needs)  -- only-requires-2
     post-requires-2
-    sub-kept
-    add-kept
-    only-requires-3
+    (λ c. let h : tie.After-only = search in held-most h)  -- sub-kept
+    (λ c. search needs)  -- add-kept
+    (λ c κs. search needs)  -- only-requires-3
     post-requires-3
-    limit-number-requires
-    add-t19
-    sub-t17
+    (λ c κs. search needs)  -- limit-number-requires
+    add-front
+    (λ c. let k : tie.After-only3 = search in arisen-most k)  -- sub-held
     returns)
