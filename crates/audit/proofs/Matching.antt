@@ -6,12 +6,12 @@ use Prim.Native.Nat.{ℕ, _+_, _≤_}
 use lib.Dec.{eqb}
 use Rattle.lists.proofs.Pad.{take-pad}
 use Rattle.meter.specs.Sharing.{blank}
-use Rattle.account.specs.declared.Status.{Status}
-use Rattle.account.specs.declared.Status.the-variants.{New, Supplied, Stopped, Cancelled}
+use Rattle.plan.specs.declared.Status.{Status}
+use Rattle.plan.specs.declared.Status.the-variants.{New, Supplied, Stopped, Cancelled}
 use Rattle.account.specs.declared.Account.{Account}
-use Rattle.account.specs.Closing.{startOf, stopOf, storedEstimates}
+use Rattle.plan.specs.Statuses.{startOf, stopOf, isSupplied, isStopped}
+use Rattle.plan.specs.Closing.{storedEstimates}
 use Rattle.account.specs.Calls.{standingEstimates}
-use Rattle.account.specs.Refusals.{isSupplied, isStopped}
 use Rattle.account.proofs.Facts.{Facts, StatusFacts}
 use Rattle.account.proofs.Sound.{load}
 use Rattle.audit.specs.Book.{Book, asEstimate, estimates, prices, volumeBefore, closedOn}
@@ -20,10 +20,10 @@ use Rattle.audit.proofs.Periods.{AbsentZero}
 
 -- Dial, pool and periods.
 pub record Metered (a : Account) (b : Book) : Type 0 where
-  pub dial-is : a .dial ≡ b .metering .dial
-  pub digits-is : a .digits ≡ b .metering .digits
-  pub pool-is : a .pool ≡ b .metering .pool
-  pub previous-is : a .previous ≡ volumeBefore (b .periods)
+  pub dial-is : a .meter .dial ≡ b .metering .dial
+  pub digits-is : a .meter .digits ≡ b .metering .digits
+  pub pool-is : a .meter .pool ≡ b .metering .pool
+  pub previous-is : a .meter .previous ≡ volumeBefore (b .periods)
   pub estimates-are : a .estimates ≡ storedEstimates (map asEstimate (reverse (estimates (b .periods))))
   pub zeros : AbsentZero (b .periods)
 

@@ -8,19 +8,21 @@ use native.Mathlib.Omega.{arith}
 use lib.Dec.{eqb}
 use Rattle.lists.specs.Every.{Every}
 use Rattle.lists.proofs.Every.{every-map}
+use Rattle.meter.specs.declared.Meter.{Meter}
 use Rattle.meter.specs.declared.Estimates.{Estimates}
 use Rattle.ledger.specs.declared.Ledger.{Ledger}
 use Rattle.ledger.specs.Posting.{Standing, standing}
-use Rattle.account.specs.declared.Status.{Status}
-use Rattle.account.specs.declared.Status.the-variants.{New, Supplied, Stopped, Cancelled}
+use Rattle.plan.specs.declared.Status.{Status}
+use Rattle.plan.specs.declared.Status.the-variants.{New, Supplied, Stopped, Cancelled}
 use Rattle.account.specs.declared.Account.{Account}
-use Rattle.account.specs.Closing.{stopOf, resumedStart}
+use Rattle.plan.specs.Statuses.{stopOf, isNew, isSupplied, isStopped}
+use Rattle.plan.specs.Closing.{resumedStart}
 use Rattle.account.specs.Calls
-use Rattle.account.specs.Calls.{standingEstimates}
-use Rattle.account.specs.Refusals.{isNew, isSupplied, isStopped}
+use Rattle.account.specs.Calls.{headOf, standingEstimates}
 use Rattle.account.proofs.Made.{Made}
-use Rattle.account.proofs.Facts.{ItemFacts, EstimateFacts, LedgerFacts, Facts, StatusFacts, new-facts}
-use Rattle.account.proofs.Passed.{DialPassed, ExchangePassed}
+use Rattle.account.proofs.Facts.{ItemFacts, LedgerFacts, Facts, StatusFacts, new-facts}
+use Rattle.plan.specs.Plans.{EstimateBounds}
+use Rattle.plan.proofs.Passed.{DialPassed, ExchangePassed}
 use Rattle.account.proofs.Sound.{item-later, load}
 use Rattle.audit.specs.Book
 use Rattle.audit.specs.Book.{Book, Money, Metering, closedOn, settled, acceptMeter, begun, exchanged}
@@ -52,9 +54,9 @@ new-open a b new match = go (a .status) new match
     go Cancelled e m = absurd (false≢true e)
 
 -- 01 and 07: the dial is set and a period begins.
-module _ (a : Account) (b : Book) (w : Matched a b) (day reading digits start bookStart : ℕ) (allowed : Bool) (p : DialPassed allowed a day reading digits)
+module _ (a : Account) (b : Book) (w : Matched a b) (day reading digits start bookStart : ℕ) (allowed : Bool) (p : DialPassed allowed (headOf a) day reading digits)
     (not-cancelled : b .money .is-cancelled ≡ false) (same-start : start ≡ bookStart) (start-most : start ≤ day + 1)
-    (pool-most : a .pool ≤ 99999) (previous-most : a .previous ≤ 99999) (misses-most : a .estimates .count ≤ 6) (estimates : Every EstimateFacts (standingEstimates a)) (ledger : LedgerFacts (a .latest) (a .ledger)) where
+    (pool-most : a .meter .pool ≤ 99999) (previous-most : a .meter .previous ≤ 99999) (misses-most : a .estimates .count ≤ 6) (estimates : Every EstimateBounds (standingEstimates a)) (ledger : LedgerFacts (a .latest) (a .ledger)) where
   begun-matched : Matched (Calls.begun a day reading digits start .account) (acceptMeter b day (begun (b .metering) reading digits bookStart))
   begun-matched =
       rw (finished-open (b .money) day not-cancelled)
@@ -80,10 +82,10 @@ module _ (a : Account) (b : Book) (w : Matched a b) (day reading digits start bo
         load-most = load-same a b day w;
       })
 
-pub opening-matched : (a : Account) (b : Book) → Matched a b → (day reading digits : ℕ) → DialPassed (isNew (a .status)) a day reading digits
+pub opening-matched : (a : Account) (b : Book) → Matched a b → (day reading digits : ℕ) → DialPassed (isNew (a .status)) (headOf a) day reading digits
     → Matched (Calls.begun a day reading digits day .account) (acceptMeter b day (begun (b .metering) reading digits day))
 opening-matched a b w day reading digits p =
-    begun-matched a b w day reading digits day day (isNew (a .status)) p (new-open a b (p .status-allows) (w .status-match)) refl (omega arith) (omega (arith, made .pool-none)) (omega (arith, made .previous-none)) (omega (arith, no-misses)) none-estimated none-open
+    begun-matched a b w day reading digits day day (isNew (a .status)) p (new-open a b (p .status-allows) (w .status-match)) refl (omega arith) (omega (arith, ap (λ (m : Meter). m .pool) (made .meter-none))) (omega (arith, ap (λ (m : Meter). m .previous) (made .meter-none))) (omega (arith, no-misses)) none-estimated none-open
   where
     made : Made a
     made = new-facts (a .status) a (p .status-allows) (w .facts)
@@ -91,7 +93,7 @@ opening-matched a b w day reading digits p =
     no-misses : a .estimates .count ≡ 0
     no-misses = ap (λ (e : Estimates). e .count) (made .estimates-none)
 
-    none-estimated : Every EstimateFacts (standingEstimates a)
+    none-estimated : Every EstimateBounds (standingEstimates a)
     none-estimated = rw no-misses tt
 
     none-open : LedgerFacts (a .latest) (a .ledger)
@@ -99,7 +101,7 @@ opening-matched a b w day reading digits p =
         subst (LedgerFacts (a .latest)) (sym (made .ledger-none))
         (record { count-most = omega arith; items = tt; held-most = omega arith; credit-most = omega arith; credit-or-none = inl refl })
 
-pub reconnection-matched : (a : Account) (b : Book) → Matched a b → (day reading digits : ℕ) → DialPassed (isStopped (a .status)) a day reading digits
+pub reconnection-matched : (a : Account) (b : Book) → Matched a b → (day reading digits : ℕ) → DialPassed (isStopped (a .status)) (headOf a) day reading digits
     → Matched (Calls.begun a day reading digits (resumedStart (stopOf (a .status)) day) .account) (acceptMeter b day (begun (b .metering) reading digits (cond (closedOn (b .periods) day) (day + 1) day)))
 reconnection-matched a b w day reading digits p =
     begun-matched a b w day reading digits (resumedStart (stopOf (a .status)) day) (cond (closedOn (b .periods) day) (day + 1) day) (isStopped (a .status)) p (stopped .not-cancelled)
@@ -126,7 +128,7 @@ still-facts (Supplied start) a after s h f m = (omega (arith, m .0), f)
 still-facts (Stopped stop) a after s h f m = absurd (false≢true s)
 still-facts Cancelled a after s h f m = absurd (false≢true s)
 
-pub exchange-matched : (a : Account) (b : Book) → Matched a b → (day old new digits : ℕ) → ExchangePassed a day old new digits
+pub exchange-matched : (a : Account) (b : Book) → Matched a b → (day old new digits : ℕ) → ExchangePassed (headOf a) day old new digits
     → Matched (Calls.exchanged a day old new digits .account) (acceptMeter b day (exchanged (b .metering) old new digits))
 exchange-matched a b w day old new digits p =
     rw (finished-open (b .money) day (supplied .not-cancelled))

@@ -14,13 +14,15 @@ use Rattle.tariff.proofs.Bounds.{price-most}
 use Rattle.meter.specs.Sharing.{blank}
 use Rattle.ledger.specs.Posting.{Standing, standing, stored, closed}
 use Rattle.account.specs.declared.Account.{Account}
-use Rattle.account.specs.declared.Call.{Call}
-use Rattle.account.specs.Closing.{startOf, daysOf, storedEstimates}
-use Rattle.account.specs.Calls.{standingEstimates, estimateOf, missed}
-use Rattle.account.proofs.Facts.{EstimateFacts, MeterFacts}
-use Rattle.account.proofs.Passed.{MissPassed}
+use Rattle.plan.specs.declared.Call.{Call}
+use Rattle.plan.specs.Statuses.{startOf}
+use Rattle.plan.specs.Closing.{daysOf, storedEstimates}
+use Rattle.account.specs.Calls.{headOf, standingEstimates, estimateOf, missed}
+use Rattle.plan.specs.Plans.{EstimateBounds}
+use Rattle.account.proofs.Facts.{MeterFacts}
+use Rattle.plan.proofs.Passed.{MissPassed}
 use Rattle.account.proofs.Sound.{Bounded, held-most, closed-bounded, stored-facts}
-use Rattle.account.proofs.Nets.{billable}
+use Rattle.plan.proofs.Nets.{billable}
 use Rattle.ledger.proofs.Bounds.{standing-stored}
 use Rattle.audit.specs.Book
 use Rattle.audit.specs.Book.{Book, Money, Period, isReading, isAbsence, asEstimate, estimates, prices, priceAt, newPeriod, netAdded, settled, finished, acceptMiss}
@@ -30,7 +32,7 @@ use Rattle.audit.proofs.Matching.{Matched, Supply, supply, estimates-st
 use Rattle.audit.proofs.Readings.{bounded}
 
 -- A call that is no reading, of a volume within the limit, 0 for known absence.
-module _ (a : Account) (b : Book) (w : Matched a b) (day : ℕ) (fuel : Fuel) (p : MissPassed a day fuel)
+module _ (a : Account) (b : Book) (w : Matched a b) (day : ℕ) (fuel : Fuel) (p : MissPassed (headOf a) day fuel)
     (call : Call) (no-reading : isReading call ≡ false) (volume : ℕ) (within : volume ≤ 99999) (absent-zero : isAbsence call ≡ true → volume ≡ 0) where
   supplied : Supply a b
   supplied = supply a b w (p .supplied)
@@ -100,7 +102,7 @@ module _ (a : Account) (b : Book) (w : Matched a b) (day : ℕ) (fuel : Fuel) (p
   after : Account
   after = missed a day fuel (isAbsence call) volume .account
 
-  this-facts : EstimateFacts (estimateOf a day fuel (isAbsence call) volume)
+  this-facts : EstimateBounds (estimateOf a day fuel (isAbsence call) volume)
   unfolding charged
   this-facts = record { days-least = p .some-day; days-most = days-most; fuel-allowed = p .fuel-allowed; volume-most = within; charged-most = charged-within }
 
@@ -116,7 +118,7 @@ module _ (a : Account) (b : Book) (w : Matched a b) (day : ℕ) (fuel : Fuel) (p
         misses-most = rw (length-append (standingEstimates a) (estimateOf a day fuel (isAbsence call) volume ∷ [])) (omega (arith, length-take (a .estimates .count) (a .estimates .periods), p .misses-most));
         estimates =
             rw (take-pad blank 6 (standingEstimates a ++ (estimateOf a day fuel (isAbsence call) volume ∷ [])))
-            (every-append EstimateFacts (standingEstimates a) (estimateOf a day fuel (isAbsence call) volume ∷ []) (supplied .facts .meter .estimates) (this-facts, tt));
+            (every-append EstimateBounds (standingEstimates a) (estimateOf a day fuel (isAbsence call) volume ∷ []) (supplied .facts .meter .estimates) (this-facts, tt));
       }
 
   pub miss-matched : length (closed day (pos (estimateOf a day fuel (isAbsence call) volume .charged)) (standing (a .ledger)) .open-items) ≤ 72

@@ -6,13 +6,13 @@ use native.Mathlib.Omega.{arith}
 use lib.ListN.{length}
 use Rattle.ledger.specs.declared.Ledger.{Ledger}
 use Rattle.ledger.specs.Posting.{Standing, standing, stored, paid, heldPosted}
-use Rattle.account.specs.declared.Status.{Status}
-use Rattle.account.specs.declared.Status.the-variants.{New, Supplied, Stopped, Cancelled}
+use Rattle.plan.specs.declared.Status.{Status}
+use Rattle.plan.specs.declared.Status.the-variants.{New, Supplied, Stopped, Cancelled}
 use Rattle.account.specs.declared.Account.{Account}
-use Rattle.account.specs.Calls.{withLedger, isCancelled, paidLedger, payment, stoppedCancellation}
-use Rattle.account.specs.Refusals.{isNew}
+use Rattle.account.specs.Calls.{headOf, withLedger, paidLedger, payment, stoppedCancellation}
+use Rattle.plan.specs.Statuses.{isCancelled, isNew}
 use Rattle.account.proofs.Facts.{Facts, StatusFacts, not-new-facts}
-use Rattle.account.proofs.Passed.{PaymentPassed}
+use Rattle.plan.proofs.Passed.{PaymentPassed}
 use Rattle.account.proofs.Sound.{Bounded, Sound, held-most, paid-bounded, posted-sound, stored-facts}
 use Rattle.ledger.proofs.Bounds.{standing-stored}
 use Rattle.audit.specs.Book.{Book, Money, prices, settled, received, interestEntered, cancelled, finished, acceptMoney}
@@ -161,7 +161,7 @@ open-book (Supplied start) b e m = m .1
 open-book (Stopped stop) b e m = m .1
 open-book Cancelled b e m = absurd (true≢false e)
 
-pub payment-matched : (a : Account) (b : Book) → Matched a b → (day yen : ℕ) → PaymentPassed a day yen
+pub payment-matched : (a : Account) (b : Book) → Matched a b → (day yen : ℕ) → PaymentPassed (headOf a) day yen
     → payment a day yen .account .ledger .count ≤ 72 → payment a day yen .account .ledger .credit ≤ 999999999
     → Matched (payment a day yen .account) (acceptMoney b day (received (b .money) yen))
 payment-matched a b w day yen p items-most credit-most = go (isCancelled (a .status)) refl

@@ -16,17 +16,19 @@ use Rattle.meter.proofs.Sharing.{final-sum}
 use Rattle.ledger.specs.declared.Ledger.{Ledger}
 use Rattle.ledger.specs.Posting.{Standing, standing, stored, closed, heldPosted, chargeOf}
 use Rattle.ledger.proofs.Settling.{left-or-none}
-use Rattle.account.specs.declared.Status.{Status}
-use Rattle.account.specs.declared.Status.the-variants.{Supplied, Stopped, Cancelled}
+use Rattle.plan.specs.declared.Status.{Status}
+use Rattle.plan.specs.declared.Status.the-variants.{Supplied, Stopped, Cancelled}
 use Rattle.account.specs.declared.Account.{Account}
-use Rattle.account.specs.declared.Call.{Call}
-use Rattle.account.specs.Closing.{startOf, daysOf, dayAfter, ofThisPeriod}
+use Rattle.plan.specs.declared.Call.{Call}
+use Rattle.plan.specs.Statuses.{startOf}
+use Rattle.plan.specs.Closing.{daysOf, dayAfter, ofThisPeriod}
 use Rattle.account.specs.Calls
-use Rattle.account.specs.Calls.{standingEstimates, poolTo, madeFinal, closingPrice, closingNet, closedLedger, afterReading}
+use Rattle.account.specs.Calls.{headOf, standingEstimates, madeFinal, closingPrice, closingNet, closedLedger, afterReading}
+use Rattle.meter.specs.Metering.{poolTo}
 use Rattle.account.proofs.Facts.{ItemFacts, MeterFacts, LedgerFacts, Facts, StatusFacts}
-use Rattle.account.proofs.Passed.{ReadingPassed}
+use Rattle.plan.proofs.Passed.{ReadingPassed}
 use Rattle.account.proofs.Sound.{item-later, Bounded, held-most, closed-bounded, posted-sound, stored-facts}
-use Rattle.account.proofs.Nets.{billable, this-within, charge-most}
+use Rattle.plan.proofs.Nets.{billable, this-within, charge-most}
 use Rattle.ledger.proofs.Bounds.{standing-stored}
 use Rattle.audit.specs.Book
 use Rattle.audit.specs.Book.{Book, Money, Period, isReading, isAbsence, estimates, prices, priceAt, lastOf, newPeriod, poolWith, withReading, netAdded, paidIn, settled, finished, interestEntered, cancelled, read, acceptReading}
@@ -48,7 +50,7 @@ bounded a b w day h facts =
     }
 
 -- A call that is a real reading.
-module _ (a : Account) (b : Book) (w : Matched a b) (day reading : ℕ) (fuel : Fuel) (p : ReadingPassed a day reading fuel)
+module _ (a : Account) (b : Book) (w : Matched a b) (day reading : ℕ) (fuel : Fuel) (p : ReadingPassed (headOf a) day reading fuel)
     (call : Call) (is-reading : isReading call ≡ true) (no-absence : isAbsence call ≡ false) where
   supplied : Supply a b
   supplied = supply a b w (p .supplied)
@@ -63,7 +65,7 @@ module _ (a : Account) (b : Book) (w : Matched a b) (day reading : ℕ) (fuel : 
   unfolding periods
   net = netAdded (b .periods) periods
 
-  pool-is : poolTo a reading ≡ pool
+  pool-is : poolTo (a .meter) reading ≡ pool
   unfolding pool
   pool-is = rw (w .metered .pool-is, w .metered .digits-is, w .metered .dial-is)
 
@@ -103,13 +105,13 @@ module _ (a : Account) (b : Book) (w : Matched a b) (day reading : ℕ) (fuel : 
   price-within : closingPrice a day reading fuel ≤ 100000000
   price-within =
       price-most (daysOf (startOf (a .status)) day) fuel (ofThisPeriod (madeFinal a day reading fuel))
-      (billable (daysOf (startOf (a .status)) day) fuel (ofThisPeriod (madeFinal a day reading fuel)) (p .some-day) days-most (p .fuel-allowed) (this-within (standingEstimates a) (poolTo a reading) (p .pool-most)))
+      (billable (daysOf (startOf (a .status)) day) fuel (ofThisPeriod (madeFinal a day reading fuel)) (p .some-day) days-most (p .fuel-allowed) (this-within (standingEstimates a) (poolTo (a .meter) reading) (p .pool-most)))
 
   six : length (standingEstimates a) ≤ 6
   six = omega (arith, length-take (a .estimates .count) (a .estimates .periods), supplied .facts .meter .misses-most)
 
   charge-within : chargeOf (closingNet a day reading fuel) ≤ 700000000
-  charge-within = charge-most (standingEstimates a) (poolTo a reading) (closingPrice a day reading fuel) six (supplied .facts .meter .estimates) (p .pool-most) price-within
+  charge-within = charge-most (standingEstimates a) (poolTo (a .meter) reading) (closingPrice a day reading fuel) six (supplied .facts .meter .estimates) (p .pool-most) price-within
 
   before : Bounded day (onLedger (b .money))
   before = bounded a b w day (p .not-before) (supplied .facts)
@@ -126,7 +128,7 @@ module _ (a : Account) (b : Book) (w : Matched a b) (day reading : ℕ) (fuel : 
         digits-within = supplied .facts .meter .digits-within;
         dial-within = p .on-dial;
         pool-most = omega arith;
-        previous-most = this-within (standingEstimates a) (poolTo a reading) (p .pool-most);
+        previous-most = this-within (standingEstimates a) (poolTo (a .meter) reading) (p .pool-most);
         misses-most = omega arith;
         estimates = tt;
       }
@@ -212,4 +214,4 @@ module _ (a : Account) (b : Book) (w : Matched a b) (day reading : ℕ) (fuel : 
   -- A real closing makes final what the meters advanced.
   pub reading-advanced : sum (madeFinal a day reading fuel) + b .metering .advanced ≡ read (b .metering) day reading .advanced
   unfolding pool
-  reading-advanced = omega (arith, final-sum (standingEstimates a) (poolTo a reading), pool-is)
+  reading-advanced = omega (arith, final-sum (standingEstimates a) (poolTo (a .meter) reading), pool-is)

@@ -12,16 +12,19 @@ use Rattle.lists.proofs.Pad.{take-pad}
 use Rattle.ledger.specs.Settling.{unpaidOf}
 use Rattle.ledger.specs.Posting.{stored, Tidy}
 use Rattle.account.specs.declared.Account.{Account}
-use Rattle.account.specs.declared.Call.{Call}
+use Rattle.plan.specs.declared.Call.{Call}
 use Rattle.account.specs.declared.Outcome.{Outcome}
-use Rattle.account.specs.declared.Call.the-variants.{Opening, Reading, Missed, Absent, Exchange, Disconnection, Reconnection, Cancellation, Payment, StoppedCancellation}
-use Rattle.account.specs.Calls.{newAccount, Work, work}
-use Rattle.account.specs.Refusals.{isNew, isStopped, firstRefusal, refusal}
+use Rattle.plan.specs.declared.Call.the-variants.{Opening, Reading, Missed, Absent, Exchange, Disconnection, Reconnection, Cancellation, Payment, StoppedCancellation}
+use Rattle.account.specs.Calls.{headOf, newAccount, Work, work}
+use Rattle.plan.specs.Statuses.{isNew, isStopped}
+use Rattle.plan.specs.Refusals.{firstRefusal}
+use Rattle.account.specs.Refusals.{refusal}
 use Rattle.account.specs.Outcomes.{accepted, declined, outcome}
 use Rattle.account.specs.Whole.{madeMeter, madeEstimates, madeLedger, asMade, whole}
 use Rattle.account.proofs.Facts.{facts-whole}
 use Rattle.account.proofs.Passed
-use Rattle.account.proofs.Passed.{Accepted, begun, reading-passed, miss-passed, dial-passed, exchange-passed, payment-passed}
+use Rattle.account.proofs.Passed.{Accepted}
+use Rattle.plan.proofs.Passed.{begun, reading-passed, miss-passed, dial-passed, exchange-passed, payment-passed}
 use Rattle.audit.specs.Book.{Book, newPeriod, prices, acceptMiss, accept, enter}
 use Rattle.audit.specs.Claim.{Run, start, step, run, finalVolume, unpaidOn, Reconciled, Done, Ran, seen}
 use Rattle.audit.proofs.Balance.{standing-is, yen-sum}
@@ -38,31 +41,31 @@ record Kept (a : Account) (b : Book) (call : Call) : Type 0 where
 
 keeps : (a : Account) (b : Book) → Matched a b → (call : Call) → Accepted a call → Kept a b call
 unfolding work accept firstRefusal
-keeps a b w (Opening day reading digits) p = record { matched = opening-matched a b w day reading digits (dial-passed (isNew (a .status)) a day reading digits (p .first-passed)); volumes = zero-add (b .metering .advanced) }
+keeps a b w (Opening day reading digits) p = record { matched = opening-matched a b w day reading digits (dial-passed (isNew (a .status)) (headOf a) day reading digits (p .first-passed)); volumes = zero-add (b .metering .advanced) }
 keeps a b w (Reading day reading fuel) p =
-    let q = reading-passed a day reading fuel (p .first-passed) in
+    let q = reading-passed (headOf a) day reading fuel (p .first-passed) in
     record { matched = reading-matched a b w day reading fuel q (Reading day reading fuel) refl refl (p .items-most) (p .credit-most); volumes = reading-advanced a b w day reading fuel q (Reading day reading fuel) refl refl }
 keeps a b w (Missed day fuel) p =
-    let q = miss-passed a day fuel (p .first-passed) in
+    let q = miss-passed (headOf a) day fuel (p .first-passed) in
     let s = supply a b w (q .supplied) in
     record {
-      matched = subst (λ v. Matched (work a (Missed day fuel) .account) (acceptMiss b day (newPeriod (b .metering) (Missed day fuel) day fuel v ∷ b .periods))) (w .metered .previous-is) (miss-matched a b w day fuel q (Missed day fuel) refl (a .previous) (s .facts .meter .previous-most) (λ e. absurd (false≢true e)) (p .items-most) (p .credit-most));
+      matched = subst (λ v. Matched (work a (Missed day fuel) .account) (acceptMiss b day (newPeriod (b .metering) (Missed day fuel) day fuel v ∷ b .periods))) (w .metered .previous-is) (miss-matched a b w day fuel q (Missed day fuel) refl (a .meter .previous) (s .facts .meter .previous-most) (λ e. absurd (false≢true e)) (p .items-most) (p .credit-most));
       volumes = zero-add (b .metering .advanced);
     }
 keeps a b w (Absent day fuel) p =
-    let q = miss-passed a day fuel (p .first-passed) in
+    let q = miss-passed (headOf a) day fuel (p .first-passed) in
     record { matched = miss-matched a b w day fuel q (Absent day fuel) refl 0 (omega arith) (λ _. refl) (p .items-most) (p .credit-most); volumes = zero-add (b .metering .advanced) }
-keeps a b w (Exchange day old new digits) p = record { matched = exchange-matched a b w day old new digits (exchange-passed a day old new digits (p .first-passed)); volumes = zero-add (b .metering .advanced) }
+keeps a b w (Exchange day old new digits) p = record { matched = exchange-matched a b w day old new digits (exchange-passed (headOf a) day old new digits (p .first-passed)); volumes = zero-add (b .metering .advanced) }
 keeps a b w (Disconnection day reading fuel) p =
-    let q = reading-passed a day reading fuel (p .first-passed) in
+    let q = reading-passed (headOf a) day reading fuel (p .first-passed) in
     record { matched = disconnection-matched a b w day reading fuel q (Disconnection day reading fuel) refl refl (p .items-most) (p .credit-most); volumes = reading-advanced a b w day reading fuel q (Disconnection day reading fuel) refl refl }
-keeps a b w (Reconnection day reading digits) p = record { matched = reconnection-matched a b w day reading digits (dial-passed (isStopped (a .status)) a day reading digits (p .first-passed)); volumes = zero-add (b .metering .advanced) }
+keeps a b w (Reconnection day reading digits) p = record { matched = reconnection-matched a b w day reading digits (dial-passed (isStopped (a .status)) (headOf a) day reading digits (p .first-passed)); volumes = zero-add (b .metering .advanced) }
 keeps a b w (Cancellation day reading fuel) p =
-    let q = reading-passed a day reading fuel (p .first-passed) in
+    let q = reading-passed (headOf a) day reading fuel (p .first-passed) in
     record { matched = cancellation-matched a b w day reading fuel q (Cancellation day reading fuel) refl refl (p .items-most) (p .credit-most); volumes = reading-advanced a b w day reading fuel q (Cancellation day reading fuel) refl refl }
 keeps a b w (Payment day yen) p =
     record {
-      matched = payment-matched a b w day yen (payment-passed a day yen (p .first-passed)) (p .items-most) (p .credit-most);
+      matched = payment-matched a b w day yen (payment-passed (headOf a) day yen (p .first-passed)) (p .items-most) (p .credit-most);
       volumes = zero-add (b .metering .advanced);
     }
 keeps a b w (StoppedCancellation day) p =
