@@ -6,18 +6,26 @@ mod new_accounts;
 
 use account::Account;
 use account::Outcome;
-use account::Status;
 use ledger::Item;
 use ledger::Kind;
 use ledger::Ledger;
 use libc::STDOUT_FILENO;
 use meter::Estimate;
 use meter::Estimates;
+use meter::Meter;
+use plan::Status;
 use tariff::Fuel;
 
 const FUEL: Fuel = Fuel {
     lng: 83_130,
     propane: 75_000,
+};
+
+const METER: Meter = Meter {
+    digits: 4,
+    dial: 130,
+    pool: 10,
+    previous: 30,
 };
 
 // A missed period of 30 days and 30 m3.
@@ -97,10 +105,7 @@ fn supplied() -> Account {
     Account {
         status: Status::Supplied { start: 90 },
         latest: 100,
-        digits: 4,
-        dial: 130,
-        pool: 10,
-        previous: 30,
+        meter: METER,
         estimates: estimates,
         ledger: ledger,
     }
@@ -125,8 +130,11 @@ fn with_latest(latest: u16) -> Account {
 fn with_dial(digits: u8, dial: u32) -> Account {
     let account = supplied();
     Account {
-        digits: digits,
-        dial: dial,
+        meter: Meter {
+            digits: digits,
+            dial: dial,
+            ..METER
+        },
         ..account
     }
 }
@@ -134,7 +142,10 @@ fn with_dial(digits: u8, dial: u32) -> Account {
 fn with_pool(pool: u32) -> Account {
     let account = supplied();
     Account {
-        pool: pool,
+        meter: Meter {
+            pool: pool,
+            ..METER
+        },
         ..account
     }
 }
@@ -142,7 +153,10 @@ fn with_pool(pool: u32) -> Account {
 fn with_previous(previous: u32) -> Account {
     let account = supplied();
     Account {
-        previous: previous,
+        meter: Meter {
+            previous: previous,
+            ..METER
+        },
         ..account
     }
 }

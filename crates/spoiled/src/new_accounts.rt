@@ -5,6 +5,7 @@ use account::Account;
 use ledger::Item;
 use ledger::Kind;
 use meter::Estimate;
+use meter::Meter;
 use tariff::Fuel;
 
 // What a place that holds nothing holds.
@@ -34,6 +35,7 @@ pub fn spoil() {
 
 fn meters() {
     let account = Account::new();
+    let meter = account.meter;
     show(
         Account {
             latest: 1,
@@ -43,16 +45,31 @@ fn meters() {
     );
     show(
         Account {
-            digits: 4,
+            meter: Meter { digits: 4, ..meter },
             ..account
         },
         b"new, 4 digits",
     );
-    show(Account { dial: 1, ..account }, b"new, dial 1");
-    show(Account { pool: 1, ..account }, b"new, pool 1");
     show(
         Account {
-            previous: 1,
+            meter: Meter { dial: 1, ..meter },
+            ..account
+        },
+        b"new, dial 1",
+    );
+    show(
+        Account {
+            meter: Meter { pool: 1, ..meter },
+            ..account
+        },
+        b"new, pool 1",
+    );
+    show(
+        Account {
+            meter: Meter {
+                previous: 1,
+                ..meter
+            },
             ..account
         },
         b"new, previous volume 1",
