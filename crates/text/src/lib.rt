@@ -109,7 +109,8 @@ pub fn feed(state: State, input: &[u8], out: &mut [u8]) -> Fed
     ensures { λ r. ⌜ (r .taken ≤ length (now (input .entry))) × (r .written ≤ length (now (out .entry))) ⌝ }
     ensures { λ r. ⌜ Reached (r .state .account) ⌝ }
 {
-    let table = wire::digit_table();
+    let table = wire::value_table();
+    let pairs = wire::pair_table();
     let mut account = state.account;
     let mut length = state.length;
     let mut line = state.line;
@@ -128,11 +129,11 @@ pub fn feed(state: State, input: &[u8], out: &mut [u8]) -> Fed
             taken += 1;
             if light.applies {
                 account = account::light::apply(account, light);
-                written = wire::put_answer(account::light::answer(account), out, written);
+                written = wire::put_answer(account::light::answer(account), out, written, &pairs);
                 continue;
             }
             let outcome = answer_line(account, parsed);
-            written = wire::put_answer(outcome.answer, out, written);
+            written = wire::put_answer(outcome.answer, out, written, &pairs);
             account = outcome.account;
             continue;
         }

@@ -1,17 +1,22 @@
 -- Laws of answers. Assumes nothing.
-use mathlib.Core.Path.{_≡_, refl, ap, _∙_}
+use mathlib.Core.Path.{_≡_, refl, sym, ap, _∙_}
 use mathlib.Core.Bool.{true, false, true≢false}
-use Prim.Native.Nat.{suc, _-_, _^_, _<_}
+use mathlib.Core.List.{List, [], _∷_, _++_}
+use Prim.Native.Nat.{ℕ, suc, _-_, _^_, _≤_, _<_}
 use native.Mathlib.Nat.{not-suc-le-zero}
 use native.Mathlib.Omega.{arith}
 use lib.Dec.{T}
+use lib.ListN.{length, take}
+use lib.Seq.{length-take-le}
 use lib.IntN.{ℤ, pos, negsuc, natAbs}
 use lib.Signed.{ltZ, nonNeg}
 use mir.Syntax.{w32}
 use mir.Val.{Fits, SFits, toZ, ofZ}
 use mir.Facts.{toZ-pos}
 use borrow.Author.Tests.{ltb-true}
-use Rattle.wire.specs.Answers.{twosComplement}
+use Rattle.lists.specs.Pad.{pad}
+use Rattle.lists.proofs.Pad.{take-pad}
+use Rattle.wire.specs.Answers.{lineFeed, twosComplement, volumesBytes, headBytes, amountsBytes, answerOf, acceptance, answerLine}
 
 -- A net below zero: its bits, turned round.
 pub record Turned (net : ℤ) : Type 0 where
@@ -33,3 +38,12 @@ turned (negsuc n) f e =
 pub as-it-is : (net : ℤ) → ltZ net (pos 0) ≡ false → natAbs net ≡ twosComplement net
 as-it-is (pos n) e = refl
 as-it-is (negsuc n) e = absurd (true≢false e)
+
+-- The volumes that an accepted call made final, lent with their number, are those that its answer holds.
+pub accepted-line : (estimated count : ℕ) (volumes : List ℕ) (net : ℤ) (interest unpaid credit : ℕ) → length volumes ≡ 7 → count ≤ 7 → answerLine (answerOf 0 estimated count volumes net interest unpaid credit) ≡ answerLine (acceptance estimated (take count volumes) net interest unpaid credit)
+unfolding answerLine
+accepted-line estimated count volumes net interest unpaid credit long few =
+    let final = take count volumes in
+    let count-is : count ≡ length final = sym (length-take-le count volumes (omega (arith, long, few))) in
+    let shown-is : final ≡ take (length final) (pad 7 0 final) = sym (take-pad 0 7 final) in
+    (λ i. (headBytes 0 estimated (count-is i) ++ volumesBytes (shown-is i) ++ amountsBytes net interest unpaid credit) ++ (lineFeed ∷ []))

@@ -1,104 +1,157 @@
 -- Laws of digits. Assumes nothing.
 use mathlib.Core.Path.{_≡_, refl, sym, ap, _∙_}
-use mathlib.Core.Bool.{Bool, true, false, cond, _&&_, _||_, true≢false}
-use mathlib.Core.Logic.{⊎-elim}
+use mathlib.Core.Bool.{Bool, true, false, _&&_, _||_, and-eq-true-iff}
+use mathlib.Core.Logic.{_⊎_, inl, inr, ⊎-elim}
 use mathlib.Core.List.{List, [], _∷_, _++_}
-use Prim.Native.Nat.{ℕ, suc, _+_, _-_, _*_, _^_, _≤_, _<_}
-use native.Mathlib.Nat.{eq-or-lt-of-le, ne-of-lt, lt-of-lt-of-le, pow-suc, pow-le-pow-right}
+use Prim.Native.Nat.{ℕ, zero, suc, _+_, _-_, _*_, _^_, _≤_, _<_}
+use native.Mathlib.Nat.{add-zero, add-suc, suc-add, eq-or-lt-of-le, ne-of-lt, lt-of-lt-of-le, pow-suc, pow-le-pow-right}
 use native.Mathlib.Omega.{arith}
 use lib.Dec.{leb}
 use lib.ListN.{length, getD, set, take}
 use lib.Seq.{take-suc, getD-set-same, getD-set-other}
-use borrow.Author.Tests.{leb-true, le-leb, lt-leb}
-use Rattle.wire.specs.Digits.{isDigit, valueOf, digitOr, numberFrom, numberOf}
+use borrow.Author.Tests.{leb-true, le-leb, lt-leb, lt-ltb, le-ltb}
+use Rattle.lists.specs.Every.{every}
+use Rattle.wire.specs.Digits.{isDigit, valueOf, noDigit, valueOr, glyph, numberFrom, numberOf, readFrom, readOf}
 
 -- A digit is one of the two runs of characters.
-pub decimal : (c : ℕ) → 48 ≤ c → c ≤ 57 → digitOr c ≡ c - 48
-unfolding digitOr isDigit
-decimal c l h = rw (le-leb 48 c l, le-leb c 57 h) refl
-
-pub letter : (c : ℕ) → 97 ≤ c → c ≤ 102 → digitOr c ≡ c - 87
-unfolding digitOr isDigit
-letter c l h = rw (lt-leb c 57 (omega arith), le-leb 97 c l, le-leb c 102 h, le-leb 48 c (omega arith)) refl
-
-pub below-digits : (c : ℕ) → c < 48 → digitOr c ≡ 255
-unfolding digitOr isDigit
-below-digits c h = rw (lt-leb 48 c h, lt-leb 97 c (omega arith)) refl
-
-pub between-digits : (c : ℕ) → 57 < c → c < 97 → digitOr c ≡ 255
-unfolding digitOr isDigit
-between-digits c l h = rw (le-leb 48 c (omega arith), lt-leb c 57 l, lt-leb 97 c h) refl
-
-pub past-digits : (c : ℕ) → 102 < c → digitOr c ≡ 255
-unfolding digitOr isDigit
-past-digits c h = rw (le-leb 48 c (omega arith), lt-leb c 57 (omega arith), le-leb 97 c (omega arith), lt-leb c 102 h) refl
-
--- What the value of a character says of it.
-pub digit-value : (c : ℕ) → isDigit c ≡ true → digitOr c ≡ valueOf c
-unfolding digitOr
-digit-value c e = rw e refl
-
-pub not-digit : (c : ℕ) → isDigit c ≡ false → digitOr c ≡ 255
-unfolding digitOr
-not-digit c e = rw e refl
+digit-range : (c : ℕ) → isDigit c ≡ true → ((48 ≤ c) × (c ≤ 57)) ⊎ ((97 ≤ c) × (c ≤ 102))
+unfolding isDigit
+digit-range c e = go (leb 48 c && leb c 57) refl e
+  where
+    go : (b : Bool) → (leb 48 c && leb c 57) ≡ b → (b || (leb 97 c && leb c 102)) ≡ true → ((48 ≤ c) × (c ≤ 57)) ⊎ ((97 ≤ c) × (c ≤ 102))
+    go true f g =
+        let both = and-eq-true-iff (leb 48 c) (leb c 57) .0 f in
+        inl (leb-true 48 c (both .0), leb-true c 57 (both .1))
+    go false f g =
+        let both = and-eq-true-iff (leb 97 c) (leb c 102) .0 g in
+        inr (leb-true 97 c (both .0), leb-true c 102 (both .1))
 
 pub value-small : (c : ℕ) → isDigit c ≡ true → valueOf c ≤ 15
-unfolding isDigit
-value-small c e = go (leb c 57) refl
-  where
-    go : (b : Bool) → leb c 57 ≡ b → cond b (c - 48) (c - 87) ≤ 15
-    go true h = omega (arith, leb-true c 57 h)
-    go false h = omega (arith, letters (leb 48 c) (leb 97 c) (leb c 102) refl (rw h at e))
-      where
-        letters : (x y z : Bool) → leb c 102 ≡ z → ((x && false) || (y && z)) ≡ true → c ≤ 102
-        letters true true true w t = leb-true c 102 w
-        letters true true false w t = absurd (true≢false (sym t))
-        letters true false z w t = absurd (true≢false (sym t))
-        letters false true true w t = leb-true c 102 w
-        letters false true false w t = absurd (true≢false (sym t))
-        letters false false z w t = absurd (true≢false (sym t))
+value-small c e =
+    ⊎-elim (λ r. rw (le-leb c 57 (r .1)) (omega (arith, r .1))) (λ r. rw (lt-leb c 57 (omega (arith, r .0))) (omega (arith, r .1))) (digit-range c e)
 
-pub small-digit : (c : ℕ) → digitOr c ≤ 15 → isDigit c ≡ true
-small-digit c h = go (isDigit c) refl
-  where
-    go : (b : Bool) → isDigit c ≡ b → isDigit c ≡ true
-    go true e = e
-    go false e = absurd (never (rw (not-digit c e) at h))
-      where
-        never : 255 ≤ 15 → ⊥
-        never k = omega (arith, k)
+-- The character of its value.
+glyph-value : (c : ℕ) → isDigit c ≡ true → c ≡ glyph (valueOf c)
+glyph-value c e =
+    ⊎-elim (λ r. rw (le-leb c 57 (r .1), lt-ltb (c - 48) 10 (omega (arith, r .1))) (omega (arith, r .0)))
+    (λ r. rw (lt-leb c 57 (omega (arith, r .0)), le-ltb (c - 87) 10 (omega (arith, r .0))) (omega (arith, r .0)))
+    (digit-range c e)
 
-pub large-digit : (c : ℕ) → 15 < digitOr c → isDigit c ≡ false
-large-digit c h = go (isDigit c) refl
+-- What is read of a character.
+pub decimal : (c : ℕ) → 48 ≤ c → c ≤ 57 → valueOr c ≡ c - 48
+unfolding valueOr isDigit
+decimal c l h = rw (le-leb 48 c l, le-leb c 57 h) refl
+
+pub letter : (c : ℕ) → 97 ≤ c → c ≤ 102 → valueOr c ≡ c - 87
+unfolding valueOr isDigit
+letter c l h = rw (lt-leb c 57 (omega arith), le-leb 97 c l, le-leb c 102 h, le-leb 48 c (omega arith)) refl
+
+pub below-digits : (c : ℕ) → c < 48 → valueOr c ≡ noDigit
+unfolding valueOr isDigit
+below-digits c h = rw (lt-leb 48 c h, lt-leb 97 c (omega arith)) refl
+
+pub between-digits : (c : ℕ) → 57 < c → c < 97 → valueOr c ≡ noDigit
+unfolding valueOr isDigit
+between-digits c l h = rw (le-leb 48 c (omega arith), lt-leb c 57 l, lt-leb 97 c h) refl
+
+pub past-digits : (c : ℕ) → 102 < c → valueOr c ≡ noDigit
+unfolding valueOr isDigit
+past-digits c h = rw (le-leb 48 c (omega arith), lt-leb c 57 (omega arith), le-leb 97 c (omega arith), lt-leb c 102 h) refl
+
+pub value-digit : (c : ℕ) → isDigit c ≡ true → valueOr c ≡ valueOf c
+unfolding valueOr
+value-digit c e = rw e refl
+
+value-none : (c : ℕ) → isDigit c ≡ false → valueOr c ≡ noDigit
+unfolding valueOr
+value-none c e = rw e refl
+
+pub value-most : (c : ℕ) → valueOr c ≤ noDigit
+value-most c = go (isDigit c) refl
   where
-    go : (b : Bool) → isDigit c ≡ b → isDigit c ≡ false
-    go false e = e
-    go true e = absurd (never (rw (digit-value c e) at h))
-      where
-        never : 15 < valueOf c → ⊥
-        never k = omega (arith, k, value-small c e)
+    go : (b : Bool) → isDigit c ≡ b → valueOr c ≤ noDigit
+    go true e = omega (arith, value-digit c e, value-small c e)
+    go false e = omega (arith, value-none c e)
+
+pub char-of : (c k : ℕ) → k < 16 → valueOr c ≡ k → c ≡ glyph k
+char-of c k h v = go (isDigit c) refl
+  where
+    go : (b : Bool) → isDigit c ≡ b → c ≡ glyph k
+    go true e = glyph-value c e ∙ ap glyph (sym (value-digit c e) ∙ v)
+    go false e = absurd (omega (arith, h, v, value-none c e))
 
 -- One place more of a table.
-pub shows-next : (table : List ℕ) (i : ℕ) → i < length table → ((c : ℕ) → c < i → getD table c 0 ≡ digitOr c) → (c : ℕ) → c < i + 1 → getD (set table i (digitOr i)) c 0 ≡ digitOr c
+pub shows-next : (table : List ℕ) (i : ℕ) → i < length table → ((c : ℕ) → c < i → getD table c 0 ≡ valueOr c) → (c : ℕ) → c < i + 1 → getD (set table i (valueOr i)) c 0 ≡ valueOr c
 shows-next table i h shown c k = ⊎-elim same before (eq-or-lt-of-le {n = c} {m = i} (omega arith))
   where
-    same : c ≡ i → getD (set table i (digitOr i)) c 0 ≡ digitOr c
-    same e = rw e (getD-set-same table i (digitOr i) 0 h)
+    same : c ≡ i → getD (set table i (valueOr i)) c 0 ≡ valueOr c
+    same e = rw e (getD-set-same table i (valueOr i) 0 h)
 
-    before : c < i → getD (set table i (digitOr i)) c 0 ≡ digitOr c
-    before l = getD-set-other table i c (digitOr i) 0 (ne-of-lt l) ∙ shown c l
+    before : c < i → getD (set table i (valueOr i)) c 0 ≡ valueOr c
+    before l = getD-set-other table i c (valueOr i) 0 (ne-of-lt l) ∙ shown c l
 
 -- One more digit behind others.
 pub number-snoc : (n : ℕ) (cs : List ℕ) (c : ℕ) → numberFrom n (cs ++ (c ∷ [])) ≡ numberFrom n cs * 16 + valueOf c
 number-snoc n [] c = refl
 number-snoc n (d ∷ cs) c = number-snoc (n * 16 + valueOf d) cs c
 
-pub number-suc : (cs : List ℕ) (i : ℕ) → i < length cs → numberOf (take (suc i) cs) ≡ numberOf (take i cs) * 16 + valueOf (getD cs i 0)
-number-suc cs i h = ap numberOf (take-suc cs i 0 h) ∙ number-snoc 0 (take i cs) (getD cs i 0)
+-- One more character.
+read-snoc : (n : ℕ) (cs : List ℕ) (c : ℕ) → readFrom n (cs ++ (c ∷ [])) ≡ readFrom n cs * 16 + valueOr c
+read-snoc n [] c = refl
+read-snoc n (d ∷ cs) c = read-snoc (n * 16 + valueOr d) cs c
 
--- a number of i digits below 16 ^ 8, and one digit more
-pub power-within : (n i : ℕ) → n < 16 ^ i → i < 8 → n < 16 ^ 7
-power-within n i h k = lt-of-lt-of-le h (pow-le-pow-right {n = 16} (omega arith) {i = i} {j = 7} (omega arith))
+pub read-suc : (cs : List ℕ) (i : ℕ) → i < length cs → readOf (take (suc i) cs) ≡ readOf (take i cs) * 16 + valueOr (getD cs i 0)
+read-suc cs i h = ap readOf (take-suc cs i 0 h) ∙ read-snoc 0 (take i cs) (getD cs i 0)
 
-pub power-next : (n d i : ℕ) → n < 16 ^ i → d ≤ 15 → n * 16 + d < 16 ^ suc i
-power-next n d i h k = rw (pow-suc 16 i) (omega arith)
+-- The most that so many characters come to: eight fit 64 bits.
+unfoldable pub cap : ℕ → ℕ
+cap zero = 0
+cap (suc i) = cap i * 16 + noDigit
+
+cap-on : (i k : ℕ) → cap i ≤ cap (i + k)
+unfolding cap
+cap-on i zero = rw (add-zero i) (omega arith)
+cap-on i (suc k) = rw (add-suc i k) (omega (arith, cap-on i k))
+
+pub cap-next : (n v i : ℕ) → n ≤ cap i → v ≤ noDigit → n * 16 + v ≤ cap (suc i)
+unfolding cap
+cap-next n v i h k = omega (arith, h, k)
+
+pub cap-within : (n i : ℕ) → n ≤ cap i → i < 8 → n * 16 + noDigit < 18446744073709551616
+unfolding cap
+cap-within n i h l =
+    let seven : i + (7 - i) ≡ 7 = omega arith in
+    let more : cap i ≤ cap 7 = rw seven at (cap-on i (7 - i)) in
+    omega (arith, more, h)
+
+-- Below 2 ^ 32, all are digits and what is read is their number.
+read-least : (n : ℕ) (cs : List ℕ) → n ≤ readFrom n cs
+read-least n [] = omega arith
+read-least n (c ∷ cs) = omega (arith, read-least (n * 16 + valueOr c) cs)
+
+pub read-digits : (n : ℕ) (cs : List ℕ) → readFrom n cs < noDigit → every isDigit cs ≡ true
+read-digits n [] h = refl
+read-digits n (c ∷ cs) h = go (isDigit c) refl (read-digits (n * 16 + valueOr c) cs h)
+  where
+    go : (b : Bool) → isDigit c ≡ b → every isDigit cs ≡ true → every isDigit (c ∷ cs) ≡ true
+    go true e all = rw e all
+    go false e all = absurd (omega (arith, h, value-none c e, read-least (n * 16 + valueOr c) cs))
+
+pub digits-read : (n : ℕ) (cs : List ℕ) → every isDigit cs ≡ true → readFrom n cs ≡ numberFrom n cs
+digits-read n [] e = refl
+digits-read n (c ∷ cs) e =
+    let both = and-eq-true-iff (isDigit c) (every isDigit cs) .0 e in
+    rw (value-digit c (both .0)) (digits-read (n * 16 + valueOf c) cs (both .1))
+
+-- So many digits at most.
+number-grown : (n k : ℕ) (cs : List ℕ) → n < 16 ^ k → every isDigit cs ≡ true → numberFrom n cs < 16 ^ (k + length cs)
+number-grown n k [] h e = rw (add-zero k) h
+number-grown n k (c ∷ cs) h e =
+    let both = and-eq-true-iff (isDigit c) (every isDigit cs) .0 e in
+    let next : n * 16 + valueOf c < 16 ^ suc k = rw (pow-suc 16 k) (omega (arith, h, value-small c (both .0))) in
+    rw (add-suc k (length cs), ← suc-add k (length cs)) (number-grown (n * 16 + valueOf c) (suc k) cs next (both .1))
+
+pub read-below : (cs : List ℕ) (k : ℕ) → length cs ≤ k → every isDigit cs ≡ true → readOf cs < 16 ^ k
+read-below cs k h e =
+    let grown : numberOf cs < 16 ^ (0 + length cs) = number-grown 0 0 cs (omega arith) e in
+    rw (digits-read 0 cs e) (lt-of-lt-of-le grown (pow-le-pow-right {n = 16} (omega arith) {i = 0 + length cs} {j = k} (omega arith)))

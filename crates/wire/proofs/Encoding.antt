@@ -1,22 +1,24 @@
--- Every call has a line that is read as that call. Assumes nothing.
+-- Every call has a line that is read as that call, by the layout. Assumes nothing.
 use mathlib.Core.Path.{_≡_, refl, ap, _∙_}
-use mathlib.Core.Bool.{Bool, true, false}
-use mathlib.Core.List.{List, [], _∷_, _++_}
+use mathlib.Core.Bool.{Bool, true, false, cond}
+use mathlib.Core.List.{List, [], _∷_, _++_, append-assoc}
 use Prim.Native.Nat.{ℕ, zero, suc, _+_, _*_, _/_, _%_, _^_, _<_}
 use native.Mathlib.Nat.{pow-suc}
 use native.Mathlib.Omega.{arith}
-use lib.Dec.{ltb}
-use lib.ListN.{length, take, drop}
-use lib.Seq.{take-at, drop-append-add}
-use borrow.Author.Tests.{lt-leb, le-leb, ltb-true, ltb-false}
-use Rattle.lists.specs.Sum.{total}
+use lib.Dec.{eqb, ltb}
+use lib.ListN.{length, take, drop, length-append}
+use lib.Seq.{take-at, drop-at}
+use borrow.Author.Tests.{lt-leb, le-leb, ltb-true, ltb-false, eq-eqb}
+use Rattle.lists.specs.Sum.{sum}
 use Rattle.lists.specs.Every.{every}
 use Rattle.lists.proofs.Every.{every-behind}
 use Rattle.account.specs.declared.Call.{Call}
 use Rattle.account.specs.declared.Call.the-variants.{Opening, Reading, Missed, Absent, Exchange, Disconnection, Reconnection, Cancellation, Payment, StoppedCancellation}
-use Rattle.wire.specs.declared.Parsed.the-variants.{Frame}
+use Rattle.wire.specs.declared.Parsed.{Parsed}
+use Rattle.wire.specs.declared.Parsed.the-variants.{Frame, NotAFrame}
 use Rattle.wire.specs.Digits.{isDigit, valueOf, glyph, digits, bytes, numberOf}
-use Rattle.wire.specs.Frames.{field, kindOf, frameBy, Field, of, fieldsOf, packed, encoded, Fit, parsed}
+use Rattle.wire.specs.Layout.{Make, Row, layout, sizeOf, widthsOf, field, filled, framed, toldOf}
+use Rattle.wire.specs.Frames.{parsed, widthsIn, valuesIn, packed, encoded, Fit}
 use Rattle.wire.proofs.Digits.{number-snoc}
 use Rattle.wire.proofs.Frames.{frame-at, parsed-digits}
 use Rattle.wire.proofs.Writing.{length-digits, length-behind}
@@ -53,55 +55,78 @@ number-digits (suc k) n h =
     within : (m : ℕ) → m < 16 ^ k * 16 → m / 16 < 16 ^ k
     within m g = omega (arith, g)
 
--- The first field of a frame, and the fields behind it.
-field-first : (width value : ℕ) (rest : List ℕ) → value < 16 ^ (2 * width) → field 0 width (bytes width value ++ rest) ≡ value
-field-first width value rest h = ap numberOf (take-at (bytes width value) rest (2 * width) (length-digits 16 (2 * width) value)) ∙ number-digits (2 * width) value h
+packed-every : (ws vs : List ℕ) → every isDigit (packed ws vs) ≡ true
+packed-every [] vs = refl
+packed-every (w ∷ ws) [] = refl
+packed-every (w ∷ ws) (v ∷ vs) = every-behind isDigit (bytes w v) (packed ws vs) (digits-every (2 * w) v) (packed-every ws vs)
 
-field-later : (width value from size : ℕ) (rest : List ℕ) → field (width + from) size (bytes width value ++ rest) ≡ field from size rest
-field-later width value from size rest =
-    ap (λ xs. numberOf (take (2 * size) xs)) (ap (λ n. drop n (bytes width value ++ rest)) (place (length (bytes width value)) (length-digits 16 (2 * width) value)) ∙ drop-append-add (bytes width value) rest (2 * from))
-  where
-    place : (n : ℕ) → n ≡ 2 * width → 2 * (width + from) ≡ n + 2 * from
-    place n e = omega (arith, e)
-
-packed-every : (fs : List Field) → every isDigit (packed fs) ≡ true
-packed-every [] = refl
-packed-every (f ∷ fs) = every-behind isDigit (bytes (f .width) (f .value)) (packed fs) (digits-every (2 * f .width) (f .value)) (packed-every fs)
-
-packed-length : (fs : List Field) → length (packed fs) ≡ 2 * total (λ f. f .width) fs
-packed-length [] = refl
-packed-length (f ∷ fs) =
-    length-behind (bytes (f .width) (f .value)) (packed fs) (2 * f .width) (2 * total (λ g. g .width) fs) (length-digits 16 (2 * f .width) (f .value)) (packed-length fs) ∙ omega arith
+packed-length : (ws vs : List ℕ) → Fit ws vs → length (packed ws vs) ≡ 2 * sum ws
+packed-length [] vs fit = refl
+packed-length (w ∷ ws) [] fit = absurd fit
+packed-length (w ∷ ws) (v ∷ vs) fit =
+    length-behind (bytes w v) (packed ws vs) (2 * w) (2 * sum ws) (length-digits 16 (2 * w) v) (packed-length ws vs (fit .1)) ∙ omega arith
 
 -- A field behind others.
-field-at : (before : List Field) (f : Field) (rest : List Field) → f .value < 16 ^ (2 * f .width) → field (total (λ g. g .width) before) (f .width) (packed (before ++ f ∷ rest)) ≡ f .value
-field-at [] f rest h = field-first (f .width) (f .value) (packed rest) h
-field-at (g ∷ before) f rest h = field-later (g .width) (g .value) (total (λ e. e .width) before) (f .width) (packed (before ++ f ∷ rest)) ∙ field-at before f rest h
+field-behind : (before rest : List ℕ) (from w v : ℕ) → length before ≡ 2 * from → v < 16 ^ (2 * w) → field from w (before ++ (bytes w v ++ rest)) ≡ v
+field-behind before rest from w v l h =
+    ap (λ xs. numberOf (take (2 * w) xs)) (drop-at before (bytes w v ++ rest) (2 * from) l) ∙
+    ap numberOf (take-at (bytes w v) rest (2 * w) (length-digits 16 (2 * w) v)) ∙
+    number-digits (2 * w) v h
 
--- A frame of a kind.
-framed : (line : List ℕ) (size kind : ℕ) → every isDigit line ≡ true → length line ≡ size → kindOf line ≡ kind → parsed line ≡ frameBy size kind line
-framed line size kind e l k = parsed-digits line e ∙ frame-at line size kind l k
+-- What a row makes of values in their order.
+abbrev given : (ws : List ℕ) → Make ws → List ℕ → Parsed
+given [] call [] = Frame call
+given [] call (v ∷ vs) = NotAFrame
+given (w ∷ ws) make [] = NotAFrame
+given (w ∷ ws) make (v ∷ vs) = given ws (make v) vs
+
+abbrev remade : List Row → ℕ → List ℕ → Parsed
+remade [] kind vs = NotAFrame
+remade (r ∷ rs) kind vs = cond (eqb kind (r .kind)) (given (r .widths) (r .make) vs) (remade rs kind vs)
+
+filled-packed : (before : List ℕ) (from : ℕ) (ws : List ℕ) (make : Make ws) (vs : List ℕ) → length before ≡ 2 * from → Fit ws vs → Frame (filled ws make from (before ++ packed ws vs)) ≡ given ws make vs
+filled-packed before from [] make [] l fit = refl
+filled-packed before from [] make (v ∷ vs) l fit = absurd fit
+filled-packed before from (w ∷ ws) make [] l fit = absurd fit
+filled-packed before from (w ∷ ws) make (v ∷ vs) l fit =
+    let next = filled-packed (before ++ bytes w v) (from + w) ws (make v) vs (length-append before (bytes w v) ∙ rw (l, length-digits 16 (2 * w) v) (omega arith)) (fit .1) in
+    rw (field-behind before (packed ws vs) from w v l (fit .0), ← append-assoc before (bytes w v) (packed ws vs)) next
+
+-- The row of a kind takes the line that is packed by it.
+module _ (kind : ℕ) (vs : List ℕ) where
+  abbrev Taken : List Row → Type 0
+  Taken rows = Fit (widthsOf rows kind) vs → framed rows (sizeOf (widthsOf rows kind)) kind (bytes 1 kind ++ packed (widthsOf rows kind) vs) ≡ remade rows kind vs
+
+  framed-packed : (rows : List Row) → Taken rows
+  framed-packed [] fit = refl
+  framed-packed (r ∷ rs) fit = go (eqb kind (r .kind)) refl (framed-packed rs) fit
+    where
+      go : (b : Bool) → eqb kind (r .kind) ≡ b → Taken rs → Taken (r ∷ rs)
+      go true e ih f = rw (e, eq-eqb (sizeOf (r .widths)) (sizeOf (r .widths)) refl) (filled-packed (bytes 1 kind) 1 (r .widths) (r .make) vs (length-digits 16 2 kind) (rw e at f))
+      go false e ih f = rw e (ih (rw e at f))
+
+-- A row tells its call.
+told : (call : Call) → remade layout (toldOf call .kind) (toldOf call .values) ≡ Frame call
+told (Opening day reading digits) = refl
+told (Reading day reading fuel) = refl
+told (Missed day fuel) = refl
+told (Absent day fuel) = refl
+told (Exchange day old new digits) = refl
+told (Disconnection day reading fuel) = refl
+told (Reconnection day reading digits) = refl
+told (Cancellation day reading fuel) = refl
+told (Payment day yen) = refl
+told (StoppedCancellation day) = refl
 
 -- Every call is what its line is read as: no two calls share a line, and no frame is out of reach.
-pub decoded : (call : Call) → Fit (fieldsOf call) → parsed (encoded call) ≡ Frame call
+pub decoded : (call : Call) → Fit (widthsIn call) (valuesIn call) → parsed (encoded call) ≡ Frame call
 unfolding encoded
-decoded (Opening day reading digit-count) fit =
-    framed (packed (fieldsOf (Opening day reading digit-count))) 16 1 (packed-every (fieldsOf (Opening day reading digit-count))) (packed-length (fieldsOf (Opening day reading digit-count))) (field-at [] (of 1 1) (of 2 day ∷ of 4 reading ∷ of 1 digit-count ∷ []) (fit .0)) ∙ rw (field-at (of 1 1 ∷ []) (of 2 day) (of 4 reading ∷ of 1 digit-count ∷ []) (fit .1 .0), field-at (of 1 1 ∷ of 2 day ∷ []) (of 4 reading) (of 1 digit-count ∷ []) (fit .1 .1 .0), field-at (of 1 1 ∷ of 2 day ∷ of 4 reading ∷ []) (of 1 digit-count) ([]) (fit .1 .1 .1 .0)) refl
-decoded (Reading day reading fuel) fit =
-    framed (packed (fieldsOf (Reading day reading fuel))) 30 2 (packed-every (fieldsOf (Reading day reading fuel))) (packed-length (fieldsOf (Reading day reading fuel))) (field-at [] (of 1 2) (of 2 day ∷ of 4 reading ∷ of 4 (fuel .lng) ∷ of 4 (fuel .propane) ∷ []) (fit .0)) ∙ rw (field-at (of 1 2 ∷ []) (of 2 day) (of 4 reading ∷ of 4 (fuel .lng) ∷ of 4 (fuel .propane) ∷ []) (fit .1 .0), field-at (of 1 2 ∷ of 2 day ∷ []) (of 4 reading) (of 4 (fuel .lng) ∷ of 4 (fuel .propane) ∷ []) (fit .1 .1 .0), field-at (of 1 2 ∷ of 2 day ∷ of 4 reading ∷ []) (of 4 (fuel .lng)) (of 4 (fuel .propane) ∷ []) (fit .1 .1 .1 .0), field-at (of 1 2 ∷ of 2 day ∷ of 4 reading ∷ of 4 (fuel .lng) ∷ []) (of 4 (fuel .propane)) ([]) (fit .1 .1 .1 .1 .0)) refl
-decoded (Missed day fuel) fit =
-    framed (packed (fieldsOf (Missed day fuel))) 22 3 (packed-every (fieldsOf (Missed day fuel))) (packed-length (fieldsOf (Missed day fuel))) (field-at [] (of 1 3) (of 2 day ∷ of 4 (fuel .lng) ∷ of 4 (fuel .propane) ∷ []) (fit .0)) ∙ rw (field-at (of 1 3 ∷ []) (of 2 day) (of 4 (fuel .lng) ∷ of 4 (fuel .propane) ∷ []) (fit .1 .0), field-at (of 1 3 ∷ of 2 day ∷ []) (of 4 (fuel .lng)) (of 4 (fuel .propane) ∷ []) (fit .1 .1 .0), field-at (of 1 3 ∷ of 2 day ∷ of 4 (fuel .lng) ∷ []) (of 4 (fuel .propane)) ([]) (fit .1 .1 .1 .0)) refl
-decoded (Absent day fuel) fit =
-    framed (packed (fieldsOf (Absent day fuel))) 22 4 (packed-every (fieldsOf (Absent day fuel))) (packed-length (fieldsOf (Absent day fuel))) (field-at [] (of 1 4) (of 2 day ∷ of 4 (fuel .lng) ∷ of 4 (fuel .propane) ∷ []) (fit .0)) ∙ rw (field-at (of 1 4 ∷ []) (of 2 day) (of 4 (fuel .lng) ∷ of 4 (fuel .propane) ∷ []) (fit .1 .0), field-at (of 1 4 ∷ of 2 day ∷ []) (of 4 (fuel .lng)) (of 4 (fuel .propane) ∷ []) (fit .1 .1 .0), field-at (of 1 4 ∷ of 2 day ∷ of 4 (fuel .lng) ∷ []) (of 4 (fuel .propane)) ([]) (fit .1 .1 .1 .0)) refl
-decoded (Exchange day old new digit-count) fit =
-    framed (packed (fieldsOf (Exchange day old new digit-count))) 24 5 (packed-every (fieldsOf (Exchange day old new digit-count))) (packed-length (fieldsOf (Exchange day old new digit-count))) (field-at [] (of 1 5) (of 2 day ∷ of 4 old ∷ of 4 new ∷ of 1 digit-count ∷ []) (fit .0)) ∙ rw (field-at (of 1 5 ∷ []) (of 2 day) (of 4 old ∷ of 4 new ∷ of 1 digit-count ∷ []) (fit .1 .0), field-at (of 1 5 ∷ of 2 day ∷ []) (of 4 old) (of 4 new ∷ of 1 digit-count ∷ []) (fit .1 .1 .0), field-at (of 1 5 ∷ of 2 day ∷ of 4 old ∷ []) (of 4 new) (of 1 digit-count ∷ []) (fit .1 .1 .1 .0), field-at (of 1 5 ∷ of 2 day ∷ of 4 old ∷ of 4 new ∷ []) (of 1 digit-count) ([]) (fit .1 .1 .1 .1 .0)) refl
-decoded (Disconnection day reading fuel) fit =
-    framed (packed (fieldsOf (Disconnection day reading fuel))) 30 6 (packed-every (fieldsOf (Disconnection day reading fuel))) (packed-length (fieldsOf (Disconnection day reading fuel))) (field-at [] (of 1 6) (of 2 day ∷ of 4 reading ∷ of 4 (fuel .lng) ∷ of 4 (fuel .propane) ∷ []) (fit .0)) ∙ rw (field-at (of 1 6 ∷ []) (of 2 day) (of 4 reading ∷ of 4 (fuel .lng) ∷ of 4 (fuel .propane) ∷ []) (fit .1 .0), field-at (of 1 6 ∷ of 2 day ∷ []) (of 4 reading) (of 4 (fuel .lng) ∷ of 4 (fuel .propane) ∷ []) (fit .1 .1 .0), field-at (of 1 6 ∷ of 2 day ∷ of 4 reading ∷ []) (of 4 (fuel .lng)) (of 4 (fuel .propane) ∷ []) (fit .1 .1 .1 .0), field-at (of 1 6 ∷ of 2 day ∷ of 4 reading ∷ of 4 (fuel .lng) ∷ []) (of 4 (fuel .propane)) ([]) (fit .1 .1 .1 .1 .0)) refl
-decoded (Reconnection day reading digit-count) fit =
-    framed (packed (fieldsOf (Reconnection day reading digit-count))) 16 7 (packed-every (fieldsOf (Reconnection day reading digit-count))) (packed-length (fieldsOf (Reconnection day reading digit-count))) (field-at [] (of 1 7) (of 2 day ∷ of 4 reading ∷ of 1 digit-count ∷ []) (fit .0)) ∙ rw (field-at (of 1 7 ∷ []) (of 2 day) (of 4 reading ∷ of 1 digit-count ∷ []) (fit .1 .0), field-at (of 1 7 ∷ of 2 day ∷ []) (of 4 reading) (of 1 digit-count ∷ []) (fit .1 .1 .0), field-at (of 1 7 ∷ of 2 day ∷ of 4 reading ∷ []) (of 1 digit-count) ([]) (fit .1 .1 .1 .0)) refl
-decoded (Cancellation day reading fuel) fit =
-    framed (packed (fieldsOf (Cancellation day reading fuel))) 30 8 (packed-every (fieldsOf (Cancellation day reading fuel))) (packed-length (fieldsOf (Cancellation day reading fuel))) (field-at [] (of 1 8) (of 2 day ∷ of 4 reading ∷ of 4 (fuel .lng) ∷ of 4 (fuel .propane) ∷ []) (fit .0)) ∙ rw (field-at (of 1 8 ∷ []) (of 2 day) (of 4 reading ∷ of 4 (fuel .lng) ∷ of 4 (fuel .propane) ∷ []) (fit .1 .0), field-at (of 1 8 ∷ of 2 day ∷ []) (of 4 reading) (of 4 (fuel .lng) ∷ of 4 (fuel .propane) ∷ []) (fit .1 .1 .0), field-at (of 1 8 ∷ of 2 day ∷ of 4 reading ∷ []) (of 4 (fuel .lng)) (of 4 (fuel .propane) ∷ []) (fit .1 .1 .1 .0), field-at (of 1 8 ∷ of 2 day ∷ of 4 reading ∷ of 4 (fuel .lng) ∷ []) (of 4 (fuel .propane)) ([]) (fit .1 .1 .1 .1 .0)) refl
-decoded (Payment day yen) fit =
-    framed (packed (fieldsOf (Payment day yen))) 14 9 (packed-every (fieldsOf (Payment day yen))) (packed-length (fieldsOf (Payment day yen))) (field-at [] (of 1 9) (of 2 day ∷ of 4 yen ∷ []) (fit .0)) ∙ rw (field-at (of 1 9 ∷ []) (of 2 day) (of 4 yen ∷ []) (fit .1 .0), field-at (of 1 9 ∷ of 2 day ∷ []) (of 4 yen) ([]) (fit .1 .1 .0)) refl
-decoded (StoppedCancellation day) fit =
-    framed (packed (fieldsOf (StoppedCancellation day))) 6 10 (packed-every (fieldsOf (StoppedCancellation day))) (packed-length (fieldsOf (StoppedCancellation day))) (field-at [] (of 1 10) (of 2 day ∷ []) (fit .0)) ∙ rw (field-at (of 1 10 ∷ []) (of 2 day) ([]) (fit .1 .0)) refl
+decoded call fit =
+    let kind : ℕ = toldOf call .kind in
+    let ws : List ℕ = widthsOf layout kind in
+    let long : length (encoded call) ≡ sizeOf ws = packed-length (widthsIn call) (valuesIn call) fit in
+    let kind-is = field-behind [] (packed ws (toldOf call .values)) 0 1 kind refl (fit .0) in
+    parsed-digits (encoded call) (packed-every (widthsIn call) (valuesIn call)) ∙
+    frame-at (encoded call) (sizeOf ws) kind long kind-is ∙
+    framed-packed kind (toldOf call .values) layout (fit .1) ∙
+    told call

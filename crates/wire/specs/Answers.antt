@@ -4,11 +4,35 @@ use Prim.Native.Nat.{ℕ, suc, _-_, _^_}
 use lib.IntN.{ℤ, pos, negsuc}
 use lib.ListN.{take}
 use Rattle.lists.specs.Joined.{joined}
+use Rattle.meter.specs.Sharing.{volumesOf}
 use Rattle.account.specs.declared.Answer.{Answer}
 use Rattle.wire.specs.Digits.{bytes}
 
 abbrev pub lineFeed : ℕ
 lineFeed = 10
+
+-- An answer by its numbers.
+abbrev pub answerOf : ℕ → ℕ → ℕ → List ℕ → ℤ → ℕ → ℕ → ℕ → Answer
+answerOf number estimated count volumes net interest unpaid credit =
+    record {
+      number = number;
+      estimated = estimated;
+      volumes = record { count = count; volumes = volumes };
+      net = net;
+      interest = interest;
+      unpaid = unpaid;
+      credit = credit;
+    }
+
+-- The answer to a call that is accepted.
+abbrev pub acceptance : ℕ → List ℕ → ℤ → ℕ → ℕ → ℕ → Answer
+acceptance estimated volumes net interest unpaid credit =
+    record { number = 0; estimated = estimated; volumes = volumesOf volumes; net = net; interest = interest; unpaid = unpaid; credit = credit }
+
+-- The answer to a call that is declined: all but its number is 0.
+abbrev pub refusal : ℕ → Answer
+refusal number =
+    record { number = number; estimated = 0; volumes = volumesOf []; net = pos 0; interest = 0; unpaid = 0; credit = 0 }
 
 -- Two's complement in 4 bytes.
 abbrev pub twosComplement : ℤ → ℕ
@@ -20,13 +44,18 @@ abbrev pub volumesBytes : List ℕ → List ℕ
 volumesBytes volumes = joined (bytes 4) volumes
 
 -- Number (1), estimated volume (4), n (1).
-abbrev pub answerHead : Answer → List ℕ
-answerHead answer = bytes 1 (answer .number) ++ bytes 4 (answer .estimated) ++ bytes 1 (answer .volumes .count)
+abbrev pub headBytes : ℕ → ℕ → ℕ → List ℕ
+headBytes number estimated count = bytes 1 number ++ bytes 4 estimated ++ bytes 1 count
 
 -- Net (4), interest posted (8), unpaid (8), credit (4).
+abbrev pub amountsBytes : ℤ → ℕ → ℕ → ℕ → List ℕ
+amountsBytes net interest unpaid credit = bytes 4 (twosComplement net) ++ bytes 8 interest ++ bytes 8 unpaid ++ bytes 4 credit
+
+abbrev pub answerHead : Answer → List ℕ
+answerHead answer = headBytes (answer .number) (answer .estimated) (answer .volumes .count)
+
 abbrev pub answerAmounts : Answer → List ℕ
-answerAmounts answer =
-    bytes 4 (twosComplement (answer .net)) ++ bytes 8 (answer .interest) ++ bytes 8 (answer .unpaid) ++ bytes 4 (answer .credit)
+answerAmounts answer = amountsBytes (answer .net) (answer .interest) (answer .unpaid) (answer .credit)
 
 -- The n volumes, oldest first.
 abbrev pub shown : Answer → List ℕ

@@ -14,17 +14,34 @@ isDigit c = (leb 48 c && leb c 57) || (leb 97 c && leb c 102)
 abbrev pub valueOf : ℕ → ℕ
 valueOf c = cond (leb c 57) (c - 48) (c - 87)
 
--- A digit's value, and 255 for any other character.
-unfoldable pub digitOr : ℕ → ℕ
-digitOr c = cond (isDigit c) (valueOf c) 255
+-- Read and checked at once: a digit's value, and 2 ^ 32 for any other character, so that no number of up to eight digits comes to it.
+abbrev pub noDigit : ℕ
+noDigit = 4294967296
 
--- A list that shows the value of every character at its number.
-pub record DigitTable (table : List ℕ) : Type 0 where
+unfoldable pub valueOr : ℕ → ℕ
+valueOr c = cond (isDigit c) (valueOf c) noDigit
+
+-- A list that shows this of every character at its number.
+pub record ValueTable (table : List ℕ) : Type 0 where
   pub long : length table ≡ 256
-  pub shows : (c : ℕ) → c < 256 → getD table c 0 ≡ digitOr c
+  pub shows : (c : ℕ) → c < 256 → getD table c 0 ≡ valueOr c
+
+-- What characters come to, digits or not, the most significant first.
+abbrev pub readFrom : ℕ → List ℕ → ℕ
+readFrom n [] = n
+readFrom n (c ∷ cs) = readFrom (n * 16 + valueOr c) cs
+
+abbrev pub readOf : List ℕ → ℕ
+readOf cs = readFrom 0 cs
 
 abbrev pub glyph : ℕ → ℕ
 glyph d = cond (ltb d 10) (48 + d) (87 + d)
+
+-- The two characters of every byte, one pair behind the other.
+pub record PairTable (pairs : List ℕ) : Type 0 where
+  pub long : length pairs ≡ 512
+  pub high : (b : ℕ) → b < 256 → getD pairs (2 * b) 0 ≡ glyph (b / 16)
+  pub low : (b : ℕ) → b < 256 → getD pairs (2 * b + 1) 0 ≡ glyph (b % 16)
 
 -- Big-endian: the number that hexadecimal digits show, the most significant first.
 abbrev pub numberFrom : ℕ → List ℕ → ℕ

@@ -1,21 +1,19 @@
 // Lines of the programs: a line to a call, an answer to its frame, an open item to its notice.
 ghost use mathlib.Core.Path.{_≡_};
-ghost use mathlib.Core.Bool.{true};
-ghost use Prim.Native.Nat.{_+_, _*_, _^_, _≤_, _<_};
+ghost use Prim.Native.Nat.{_+_, _≤_};
 ghost use lib.ListN.{length, take, drop, replicate};
-ghost use Rattle.lists.specs.Every.{every};
-ghost use Rattle.wire.specs.Digits.{isDigit, numberOf, digitOr, DigitTable, glyph, digits, written};
+ghost use Rattle.wire.specs.Digits.{valueOr, ValueTable, readOf, glyph, PairTable, digits, bytes, written};
 ghost use Rattle.calendar.specs.Conversions.{toDate};
-ghost use Rattle.wire.specs.Answers.{twosComplement, volumesBytes, answerHead, answerAmounts, answerLine, longestAnswer};
+ghost use Rattle.wire.specs.Answers.{acceptance, refusal, twosComplement, volumesBytes, headBytes, amountsBytes, answerOf, answerLine, longestAnswer};
 ghost use Rattle.wire.specs.Notices.{kindNumber, dateDigits, noticeLine, noticeLength};
-ghost use Rattle.wire.specs.Frames.{frameOf, parsed};
+ghost use Rattle.wire.specs.Frames.{parsed};
+ghost use Rattle.wire.specs.Numbers.{widths, widthsBy, noFields, fieldsOf, callOf, SmallIn, Checked, ReadIn, ReadAt, Begins, Any2, Any3};
 use account::Answer;
 use account::Call;
 use calendar::Day;
 use calendar::FoundDate;
 use ledger::Item;
 use ledger::Kind;
-use meter::Volumes;
 use tariff::Fuel;
 
 // What a line is.
@@ -24,227 +22,384 @@ pub enum Parsed {
     NotAFrame,
 }
 
-// The value of a character that is a hexadecimal digit, and 255 for any other.
-fn digit_or(character: u8) -> u8
-    ensures { λ r. ⌜ r ≡ digitOr character ⌝ }
-{
-    if character < 48 {
-        return 255;
-    }
-    if character <= 57 {
-        return character - 48;
-    }
-    if character < 97 {
-        return 255;
-    }
-    if character <= 102 {
-        return character - 87;
-    }
-    255
+// What stands in a frame: its width, 0 where there is none, the second character of its kind, and its fields.
+pub struct Fields {
+    pub width: usize,
+    pub kind: u8,
+    pub day: u64,
+    pub first: u64,
+    pub second: u64,
+    pub third: u64,
+    pub short: u64,
 }
 
-// The value of every character, by its number.
-pub fn digit_table() -> [u8; 256]
-    ensures { λ r. ⌜ DigitTable r ⌝ }
+// The characters of a frame, and of each of its fields behind the day.
+pub struct Widths {
+    pub size: usize,
+    pub first: usize,
+    pub second: usize,
+    pub third: usize,
+    pub short: usize,
+}
+
+// No number of eight digits comes to it.
+const NO_DIGIT: u64 = 4_294_967_296;
+
+// The value of every character, by its number: made once, and lent.
+pub fn value_table() -> [u64; 256]
+    ensures { λ r. ⌜ ValueTable r ⌝ }
 {
-    let mut table = [0u8; 256];
+    let mut table = [0u64; 256];
     let mut i: usize = 0;
     while i < 256 {
-        table[i] = digit_or(i as u8);
+        table[i] = value_or(i as u8);
         i += 1;
     }
     table
 }
 
-fn all_digits(line: &[u8], table: &[u8]) -> bool
-    requires { ⌜ DigitTable (now table) ⌝ }
-    ensures { λ r. ⌜ r ≡ every isDigit (now (line .entry)) ⌝ }
+// The value of a character that is a hexadecimal digit, and 2^32 for any other.
+fn value_or(character: u8) -> u64
+    ensures { λ r. ⌜ r ≡ valueOr character ⌝ }
 {
-    let mut i: usize = 0;
-    while i < line.len() {
-        if table[line[i] as usize] > 15 {
-            return false;
-        }
-        i += 1;
+    if character < 48 {
+        return NO_DIGIT;
     }
-    true
+    if character <= 57 {
+        return (character - 48) as u64;
+    }
+    if character < 97 {
+        return NO_DIGIT;
+    }
+    if character <= 102 {
+        return (character - 87) as u64;
+    }
+    NO_DIGIT
 }
 
-// The number that so many digits show, from a place on.
-fn number(line: &[u8], table: &[u8], from: usize, width: usize) -> u32
-    requires { ⌜ from + width ≤ length (now line) ⌝ }
-    requires { ⌜ width ≤ 8 ⌝ }
-    requires { ⌜ every isDigit (now line) ≡ true ⌝ }
-    requires { ⌜ DigitTable (now table) ⌝ }
-    ensures { λ r. ⌜ r ≡ numberOf (take width (drop from (now (line .entry)))) ⌝ }
-    ensures { λ r. ⌜ r < 16 ^ width ⌝ }
+// A line to the call that it is.
+pub fn decode(line: &[u8], table: &[u64; 256]) -> Parsed
+    requires { ⌜ ValueTable (now table) ⌝ }
+    ensures { λ r. ⌜ r ≡ parsed (now (line .entry)) ⌝ }
 {
-    let mut n: u32 = 0;
+    let fields = fields_in(line, table);
+    if fields.width == 0 {
+        return Parsed::NotAFrame;
+    }
+    Parsed::Frame(call_of(fields))
+}
+
+// The frame that a line is.
+pub fn fields_in(line: &[u8], table: &[u64; 256]) -> Fields
+    requires { ⌜ ValueTable (now table) ⌝ }
+    ensures { λ r. ⌜ ReadIn (now (line .entry)) r ⌝ }
+{
+    if line.len() < 6 {
+        return no_frame();
+    }
+    if line[0] != 48 {
+        return no_frame();
+    }
+    let kind = line[1];
+    let widths = widths_of(kind);
+    if line.len() != widths.size {
+        return no_frame();
+    }
+    let second_at = 6 + widths.first;
+    let third_at = second_at + widths.second;
+    let day = field(line, table, 2, 4);
+    let first = field(line, table, 6, widths.first);
+    let second = field(line, table, second_at, widths.second);
+    let third = field(line, table, third_at, widths.third);
+    let short = field(line, table, third_at + widths.third, widths.short);
+    checked(widths.size, kind, day, first, second, third, short, 10)
+}
+
+// By the second character of a kind: all 0 where there is no such kind.
+fn widths_of(kind: u8) -> Widths
+    ensures { λ r. ⌜ r ≡ widthsBy kind ⌝ }
+{
+    match kind {
+        49 => sized(8, 0, 0, 2),
+        50 => sized(8, 8, 8, 0),
+        51 => sized(8, 8, 0, 0),
+        52 => sized(8, 8, 0, 0),
+        53 => sized(8, 8, 0, 2),
+        54 => sized(8, 8, 8, 0),
+        55 => sized(8, 0, 0, 2),
+        56 => sized(8, 8, 8, 0),
+        57 => sized(8, 0, 0, 0),
+        97 => sized(0, 0, 0, 0),
+        _ => Widths {
+            size: 0,
+            first: 0,
+            second: 0,
+            third: 0,
+            short: 0,
+        },
+    }
+}
+
+fn sized(first: usize, second: usize, third: usize, short: usize) -> Widths
+    requires { ⌜ first + second + third + short ≤ 24 ⌝ }
+    ensures { λ r. ⌜ r ≡ widths first second third short ⌝ }
+{
+    Widths {
+        size: 6 + first + second + third + short,
+        first,
+        second,
+        third,
+        short,
+    }
+}
+
+// The frame that begins at a place, if one lies there whole and room for the longest is left.
+pub fn fields_at(input: &[u8], table: &[u64; 256], at: usize) -> Fields
+    requires { ⌜ at ≤ length (now input) ⌝ }
+    requires { ⌜ ValueTable (now table) ⌝ }
+    ensures { λ r. ⌜ ((r .width ≡ 0 → ⊥) → ReadAt (now (input .entry)) at r) ⌝ }
+{
+    if input.len() - at < 31 {
+        return no_frame();
+    }
+    if input[at] != 48 {
+        return no_frame();
+    }
+    let kind = input[at + 1];
+    match kind {
+        50 | 54 | 56 => closing_fields(input, table, at, kind),
+        49 | 55 => dial_fields(input, table, at, kind),
+        51 | 52 => estimate_fields(input, table, at, kind),
+        53 => exchange_fields(input, table, at, kind),
+        57 => payment_fields(input, table, at, kind),
+        97 => stopped_fields(input, table, at, kind),
+        _ => no_frame(),
+    }
+}
+
+// 02, 06 and 08
+fn closing_fields(input: &[u8], table: &[u64; 256], at: usize, kind: u8) -> Fields
+    requires { ⌜ Begins (now input) at kind ⌝ }
+    requires { ⌜ ValueTable (now table) ⌝ }
+    requires { ⌜ Any3 50 54 56 kind ⌝ }
+    ensures { λ r. ⌜ ((r .width ≡ 0 → ⊥) → ReadAt (now (input .entry)) at r) ⌝ }
+{
+    let day = field(input, table, at + 2, 4);
+    let first = field(input, table, at + 6, 8);
+    let second = field(input, table, at + 14, 8);
+    let third = field(input, table, at + 22, 8);
+    checked(30, kind, day, first, second, third, 0, input[at + 30])
+}
+
+// 03 and 04
+fn estimate_fields(input: &[u8], table: &[u64; 256], at: usize, kind: u8) -> Fields
+    requires { ⌜ Begins (now input) at kind ⌝ }
+    requires { ⌜ ValueTable (now table) ⌝ }
+    requires { ⌜ Any2 51 52 kind ⌝ }
+    ensures { λ r. ⌜ ((r .width ≡ 0 → ⊥) → ReadAt (now (input .entry)) at r) ⌝ }
+{
+    let day = field(input, table, at + 2, 4);
+    let first = field(input, table, at + 6, 8);
+    let second = field(input, table, at + 14, 8);
+    checked(22, kind, day, first, second, 0, 0, input[at + 22])
+}
+
+// 01 and 07
+fn dial_fields(input: &[u8], table: &[u64; 256], at: usize, kind: u8) -> Fields
+    requires { ⌜ Begins (now input) at kind ⌝ }
+    requires { ⌜ ValueTable (now table) ⌝ }
+    requires { ⌜ Any2 49 55 kind ⌝ }
+    ensures { λ r. ⌜ ((r .width ≡ 0 → ⊥) → ReadAt (now (input .entry)) at r) ⌝ }
+{
+    let day = field(input, table, at + 2, 4);
+    let first = field(input, table, at + 6, 8);
+    let short = field(input, table, at + 14, 2);
+    checked(16, kind, day, first, 0, 0, short, input[at + 16])
+}
+
+// 05
+fn exchange_fields(input: &[u8], table: &[u64; 256], at: usize, kind: u8) -> Fields
+    requires { ⌜ Begins (now input) at kind ⌝ }
+    requires { ⌜ ValueTable (now table) ⌝ }
+    requires { ⌜ kind ≡ 53 ⌝ }
+    ensures { λ r. ⌜ ((r .width ≡ 0 → ⊥) → ReadAt (now (input .entry)) at r) ⌝ }
+{
+    let day = field(input, table, at + 2, 4);
+    let first = field(input, table, at + 6, 8);
+    let second = field(input, table, at + 14, 8);
+    let short = field(input, table, at + 22, 2);
+    checked(24, kind, day, first, second, 0, short, input[at + 24])
+}
+
+// 09
+fn payment_fields(input: &[u8], table: &[u64; 256], at: usize, kind: u8) -> Fields
+    requires { ⌜ Begins (now input) at kind ⌝ }
+    requires { ⌜ ValueTable (now table) ⌝ }
+    requires { ⌜ kind ≡ 57 ⌝ }
+    ensures { λ r. ⌜ ((r .width ≡ 0 → ⊥) → ReadAt (now (input .entry)) at r) ⌝ }
+{
+    let day = field(input, table, at + 2, 4);
+    let first = field(input, table, at + 6, 8);
+    checked(14, kind, day, first, 0, 0, 0, input[at + 14])
+}
+
+// 0a
+fn stopped_fields(input: &[u8], table: &[u64; 256], at: usize, kind: u8) -> Fields
+    requires { ⌜ Begins (now input) at kind ⌝ }
+    requires { ⌜ ValueTable (now table) ⌝ }
+    requires { ⌜ kind ≡ 97 ⌝ }
+    ensures { λ r. ⌜ ((r .width ≡ 0 → ⊥) → ReadAt (now (input .entry)) at r) ⌝ }
+{
+    let day = field(input, table, at + 2, 4);
+    checked(6, kind, day, 0, 0, 0, 0, input[at + 6])
+}
+
+// A field of so many characters: its number, or 2^32 and more.
+fn field(input: &[u8], table: &[u64; 256], from: usize, width: usize) -> u64
+    requires { ⌜ from + width ≤ length (now input) ⌝ }
+    requires { ⌜ width ≤ 8 ⌝ }
+    requires { ⌜ ValueTable (now table) ⌝ }
+    ensures { λ r. ⌜ r ≡ readOf (take width (drop from (now (input .entry)))) ⌝ }
+{
+    let mut n: u64 = 0;
     let mut i: usize = 0;
     while i < width {
-        n = n * 16 + table[line[from + i] as usize] as u32;
+        n = n * 16 + table[input[from + i] as usize];
         i += 1;
     }
     n
 }
 
-// A line to the call that it is.
-pub fn decode(line: &[u8], table: &[u8]) -> Parsed
-    requires { ⌜ DigitTable (now table) ⌝ }
-    ensures { λ r. ⌜ r ≡ parsed (now (line .entry)) ⌝ }
+// The fields as they were read, if all are digits and LF follows.
+fn checked(width: usize, kind: u8, day: u64, first: u64, second: u64, third: u64, short: u64, last: u8) -> Fields
+    ensures { λ r. ⌜ Checked (fieldsOf width kind day first second third short) last r ⌝ }
 {
-    if line.len() > 30 {
-        return Parsed::NotAFrame;
+    if last != 10 {
+        return no_frame();
     }
-    if !all_digits(line, table) {
-        return Parsed::NotAFrame;
+    if day >= NO_DIGIT {
+        return no_frame();
     }
-    match line.len() {
-        30 => closing_frame(line, table),
-        22 => estimate_frame(line, table),
-        16 => dial_frame(line, table),
-        24 => exchange_frame(line, table),
-        14 => payment_frame(line, table),
-        6 => stopped_frame(line, table),
-        _ => Parsed::NotAFrame,
+    if first >= NO_DIGIT {
+        return no_frame();
+    }
+    if second >= NO_DIGIT {
+        return no_frame();
+    }
+    if third >= NO_DIGIT {
+        return no_frame();
+    }
+    if short >= NO_DIGIT {
+        return no_frame();
+    }
+    Fields {
+        width,
+        kind,
+        day,
+        first,
+        second,
+        third,
+        short,
     }
 }
 
-// The LNG price and the propane price.
-fn fuel_at(line: &[u8], table: &[u8], from: usize) -> Fuel
-    requires { ⌜ from + 16 ≤ length (now line) ⌝ }
-    requires { ⌜ every isDigit (now line) ≡ true ⌝ }
-    requires { ⌜ DigitTable (now table) ⌝ }
-    ensures { λ r. ⌜ r ≡ record { lng = numberOf (take 8 (drop from (now (line .entry)))); propane = numberOf (take 8 (drop (from + 8) (now (line .entry)))) } ⌝ }
+fn no_frame() -> Fields
+    ensures { λ r. ⌜ r ≡ noFields ⌝ }
 {
-    Fuel {
-        lng: number(line, table, from, 8),
-        propane: number(line, table, from + 8, 8),
+    Fields {
+        width: 0,
+        kind: 0,
+        day: 0,
+        first: 0,
+        second: 0,
+        third: 0,
+        short: 0,
     }
 }
 
-// 02, 06 and 08
-fn closing_frame(line: &[u8], table: &[u8]) -> Parsed
-    requires { ⌜ length (now line) ≡ 30 ⌝ }
-    requires { ⌜ every isDigit (now line) ≡ true ⌝ }
-    requires { ⌜ DigitTable (now table) ⌝ }
-    ensures { λ r. ⌜ r ≡ frameOf (now (line .entry)) ⌝ }
+// The call of the fields of a frame.
+pub fn call_of(fields: Fields) -> Call
+    requires { ⌜ SmallIn fields ⌝ }
+    ensures { λ r. ⌜ r ≡ callOf fields ⌝ }
 {
-    let kind = number(line, table, 0, 2);
-    let day = number(line, table, 2, 4) as u16;
-    let reading = number(line, table, 6, 8);
-    let fuel = fuel_at(line, table, 14);
-    if kind == 2 {
-        return Parsed::Frame(Call::Reading { day, reading, fuel });
-    }
-    if kind == 6 {
-        return Parsed::Frame(Call::Disconnection { day, reading, fuel });
-    }
-    if kind == 8 {
-        return Parsed::Frame(Call::Cancellation { day, reading, fuel });
-    }
-    Parsed::NotAFrame
-}
-
-// 03 and 04
-fn estimate_frame(line: &[u8], table: &[u8]) -> Parsed
-    requires { ⌜ length (now line) ≡ 22 ⌝ }
-    requires { ⌜ every isDigit (now line) ≡ true ⌝ }
-    requires { ⌜ DigitTable (now table) ⌝ }
-    ensures { λ r. ⌜ r ≡ frameOf (now (line .entry)) ⌝ }
-{
-    let kind = number(line, table, 0, 2);
-    let day = number(line, table, 2, 4) as u16;
-    let fuel = fuel_at(line, table, 6);
-    if kind == 3 {
-        return Parsed::Frame(Call::Missed { day, fuel });
-    }
-    if kind == 4 {
-        return Parsed::Frame(Call::Absent { day, fuel });
-    }
-    Parsed::NotAFrame
-}
-
-// 01 and 07
-fn dial_frame(line: &[u8], table: &[u8]) -> Parsed
-    requires { ⌜ length (now line) ≡ 16 ⌝ }
-    requires { ⌜ every isDigit (now line) ≡ true ⌝ }
-    requires { ⌜ DigitTable (now table) ⌝ }
-    ensures { λ r. ⌜ r ≡ frameOf (now (line .entry)) ⌝ }
-{
-    let kind = number(line, table, 0, 2);
-    let day = number(line, table, 2, 4) as u16;
-    let reading = number(line, table, 6, 8);
-    let digits = number(line, table, 14, 2) as u8;
-    if kind == 1 {
-        return Parsed::Frame(Call::Opening {
+    let kind = fields.kind;
+    let day = fields.day as u16;
+    let first = fields.first as u32;
+    let second = fields.second as u32;
+    let third = fields.third as u32;
+    let short = fields.short as u8;
+    match kind {
+        49 => Call::Opening {
             day,
-            reading,
-            digits,
-        });
-    }
-    if kind == 7 {
-        return Parsed::Frame(Call::Reconnection {
+            reading: first,
+            digits: short,
+        },
+        50 => Call::Reading {
             day,
-            reading,
-            digits,
-        });
-    }
-    Parsed::NotAFrame
-}
-
-// 05
-fn exchange_frame(line: &[u8], table: &[u8]) -> Parsed
-    requires { ⌜ length (now line) ≡ 24 ⌝ }
-    requires { ⌜ every isDigit (now line) ≡ true ⌝ }
-    requires { ⌜ DigitTable (now table) ⌝ }
-    ensures { λ r. ⌜ r ≡ frameOf (now (line .entry)) ⌝ }
-{
-    let kind = number(line, table, 0, 2);
-    let day = number(line, table, 2, 4) as u16;
-    let old = number(line, table, 6, 8);
-    let new = number(line, table, 14, 8);
-    let digits = number(line, table, 22, 2) as u8;
-    if kind == 5 {
-        return Parsed::Frame(Call::Exchange {
+            reading: first,
+            fuel: Fuel {
+                lng: second,
+                propane: third,
+            },
+        },
+        51 => Call::Missed {
             day,
-            old,
-            new,
-            digits,
-        });
+            fuel: Fuel {
+                lng: first,
+                propane: second,
+            },
+        },
+        52 => Call::Absent {
+            day,
+            fuel: Fuel {
+                lng: first,
+                propane: second,
+            },
+        },
+        53 => Call::Exchange {
+            day,
+            old: first,
+            new: second,
+            digits: short,
+        },
+        54 => Call::Disconnection {
+            day,
+            reading: first,
+            fuel: Fuel {
+                lng: second,
+                propane: third,
+            },
+        },
+        55 => Call::Reconnection {
+            day,
+            reading: first,
+            digits: short,
+        },
+        56 => Call::Cancellation {
+            day,
+            reading: first,
+            fuel: Fuel {
+                lng: second,
+                propane: third,
+            },
+        },
+        57 => Call::Payment { day, yen: first },
+        _ => Call::StoppedCancellation { day },
     }
-    Parsed::NotAFrame
 }
 
-// 09
-fn payment_frame(line: &[u8], table: &[u8]) -> Parsed
-    requires { ⌜ length (now line) ≡ 14 ⌝ }
-    requires { ⌜ every isDigit (now line) ≡ true ⌝ }
-    requires { ⌜ DigitTable (now table) ⌝ }
-    ensures { λ r. ⌜ r ≡ frameOf (now (line .entry)) ⌝ }
+// The two characters of every byte, one pair behind the other: made once, and lent.
+pub fn pair_table() -> [u8; 512]
+    ensures { λ r. ⌜ PairTable r ⌝ }
 {
-    let kind = number(line, table, 0, 2);
-    let day = number(line, table, 2, 4) as u16;
-    let yen = number(line, table, 6, 8);
-    if kind == 9 {
-        return Parsed::Frame(Call::Payment { day, yen });
+    let mut pairs = [0u8; 512];
+    let mut byte: usize = 0;
+    while byte < 256 {
+        pairs[2 * byte] = glyph_of((byte / 16) as u8);
+        pairs[2 * byte + 1] = glyph_of((byte % 16) as u8);
+        byte += 1;
     }
-    Parsed::NotAFrame
-}
-
-// 0a
-fn stopped_frame(line: &[u8], table: &[u8]) -> Parsed
-    requires { ⌜ length (now line) ≡ 6 ⌝ }
-    requires { ⌜ every isDigit (now line) ≡ true ⌝ }
-    requires { ⌜ DigitTable (now table) ⌝ }
-    ensures { λ r. ⌜ r ≡ frameOf (now (line .entry)) ⌝ }
-{
-    let kind = number(line, table, 0, 2);
-    let day = number(line, table, 2, 4) as u16;
-    if kind == 10 {
-        return Parsed::Frame(Call::StoppedCancellation { day });
-    }
-    Parsed::NotAFrame
+    pairs
 }
 
 // The character of a digit.
@@ -255,36 +410,146 @@ fn glyph_of(digit: u8) -> u8
     if digit < 10 { 48 + digit } else { 87 + digit }
 }
 
-// So many characters 0, from a place on.
-fn put_zeros(out: &mut [u8], at: usize, width: usize)
-    requires { ⌜ at + width ≤ length (now out) ⌝ }
-    ensures { λ _. ⌜ now (out .exit) ≡ written (now (out .entry)) at (replicate width 48) ⌝ }
+// The line of a call that is accepted, and the place behind it. The volumes that it made final are lent, so that none is copied.
+pub fn put_accepted(
+    estimated: u32,
+    volumes: &[u32; 7],
+    count: usize,
+    net: i32,
+    interest: u64,
+    unpaid: u64,
+    credit: u64,
+    out: &mut [u8],
+    at: usize,
+    pairs: &[u8; 512],
+) -> usize
+    requires { ⌜ length (now volumes) ≡ 7 ⌝ }
+    requires { ⌜ count ≤ 7 ⌝ }
+    requires { ⌜ at + longestAnswer ≤ length (now out) ⌝ }
+    requires { ⌜ PairTable (now pairs) ⌝ }
+    ensures { λ _. ⌜ now (out .exit) ≡ written (now (out .entry)) at (answerLine (acceptance estimated (take count (now (volumes .entry))) net interest unpaid credit)) ⌝ }
+    ensures { λ r. ⌜ r ≡ at + length (answerLine (acceptance estimated (take count (now (volumes .entry))) net interest unpaid credit)) ⌝ }
+    ensures { λ r. ⌜ r ≤ at + longestAnswer ⌝ }
 {
-    let mut i: usize = 0;
-    while i < width {
-        out[at + i] = 48;
-        i += 1;
-    }
+    put_frame(0, estimated, volumes, count, net, interest, unpaid, credit, out, at, pairs)
 }
 
-// The last digits of a number in a base, from a place on.
-fn put_digits(out: &mut [u8], at: usize, base: u64, width: usize, value: u64)
-    requires { ⌜ at + width ≤ length (now out) ⌝ }
-    requires { ⌜ 1 ≤ base ⌝ }
-    requires { ⌜ base ≤ 16 ⌝ }
-    ensures { λ _. ⌜ now (out .exit) ≡ written (now (out .entry)) at (digits base width value) ⌝ }
+// The line of a call that is declined, and the place behind it.
+pub fn put_refusal(number: u8, out: &mut [u8], at: usize, pairs: &[u8; 512]) -> usize
+    requires { ⌜ at + longestAnswer ≤ length (now out) ⌝ }
+    requires { ⌜ PairTable (now pairs) ⌝ }
+    ensures { λ _. ⌜ now (out .exit) ≡ written (now (out .entry)) at (answerLine (refusal number)) ⌝ }
+    ensures { λ r. ⌜ r ≡ at + length (answerLine (refusal number)) ⌝ }
+    ensures { λ r. ⌜ r ≤ at + longestAnswer ⌝ }
 {
-    if value == 0 {
-        put_zeros(out, at, width);
-        return;
+    put_byte(out, at, pairs, number as u64);
+    put_zeros(out, at + 2, 58);
+    out[at + 60] = 10;
+    at + 61
+}
+
+// An answer's line, and the place behind it.
+pub fn put_answer(answer: Answer, out: &mut [u8], at: usize, pairs: &[u8; 512]) -> usize
+    requires { ⌜ at + longestAnswer ≤ length (now out) ⌝ }
+    requires { ⌜ PairTable (now pairs) ⌝ }
+    ensures { λ _. ⌜ now (out .exit) ≡ written (now (out .entry)) at (answerLine answer) ⌝ }
+    ensures { λ r. ⌜ r ≡ at + length (answerLine answer) ⌝ }
+    ensures { λ r. ⌜ r ≤ at + longestAnswer ⌝ }
+{
+    let volumes = answer.volumes;
+    let entries = volumes.volumes;
+    put_frame(
+        answer.number,
+        answer.estimated,
+        &entries,
+        volumes.count,
+        answer.net,
+        answer.interest,
+        answer.unpaid,
+        answer.credit,
+        out,
+        at,
+        pairs,
+    )
+}
+
+// The line of an answer from its numbers, and the place behind it.
+fn put_frame(
+    number: u8,
+    estimated: u32,
+    volumes: &[u32; 7],
+    count: usize,
+    net: i32,
+    interest: u64,
+    unpaid: u64,
+    credit: u64,
+    out: &mut [u8],
+    at: usize,
+    pairs: &[u8; 512],
+) -> usize
+    requires { ⌜ length (now volumes) ≡ 7 ⌝ }
+    requires { ⌜ at + longestAnswer ≤ length (now out) ⌝ }
+    requires { ⌜ PairTable (now pairs) ⌝ }
+    ensures { λ _. ⌜ now (out .exit) ≡ written (now (out .entry)) at (answerLine (answerOf number estimated count (now (volumes .entry)) net interest unpaid credit)) ⌝ }
+    ensures { λ r. ⌜ r ≡ at + length (answerLine (answerOf number estimated count (now (volumes .entry)) net interest unpaid credit)) ⌝ }
+    ensures { λ r. ⌜ r ≤ at + longestAnswer ⌝ }
+{
+    put_head(out, at, pairs, number, estimated, count);
+    let next = put_volumes(out, at + 12, pairs, volumes, count);
+    put_amounts(out, next, pairs, net, interest, unpaid, credit);
+    out[next + 48] = 10;
+    next + 49
+}
+
+// Number, estimated volume and n.
+fn put_head(out: &mut [u8], at: usize, pairs: &[u8; 512], number: u8, estimated: u32, count: usize)
+    requires { ⌜ at + 12 ≤ length (now out) ⌝ }
+    requires { ⌜ PairTable (now pairs) ⌝ }
+    ensures { λ _. ⌜ now (out .exit) ≡ written (now (out .entry)) at (headBytes number estimated count) ⌝ }
+{
+    put_byte(out, at, pairs, number as u64);
+    put_word(out, at + 2, pairs, estimated as u64);
+    put_byte(out, at + 10, pairs, count as u64);
+}
+
+// The volumes, 4 bytes each, and the place behind them.
+fn put_volumes(out: &mut [u8], at: usize, pairs: &[u8; 512], volumes: &[u32; 7], count: usize) -> usize
+    requires { ⌜ length (now volumes) ≡ 7 ⌝ }
+    requires { ⌜ at + 56 ≤ length (now out) ⌝ }
+    requires { ⌜ PairTable (now pairs) ⌝ }
+    ensures { λ _. ⌜ now (out .exit) ≡ written (now (out .entry)) at (volumesBytes (take count (now (volumes .entry)))) ⌝ }
+    ensures { λ r. ⌜ r ≡ at + length (volumesBytes (take count (now (volumes .entry)))) ⌝ }
+    ensures { λ r. ⌜ r ≤ at + 56 ⌝ }
+{
+    let mut i: usize = 0;
+    while i < count {
+        if i == 7 {
+            return at + 56;
+        }
+        put_volume(out, at + 8 * i, pairs, volumes[i]);
+        i += 1;
     }
-    let mut rest = value;
-    let mut i = width;
-    while i > 0 {
-        i -= 1;
-        out[at + i] = glyph_of((rest % base) as u8);
-        rest = rest / base;
-    }
+    at + 8 * i
+}
+
+fn put_volume(out: &mut [u8], at: usize, pairs: &[u8; 512], volume: u32)
+    requires { ⌜ at + 8 ≤ length (now out) ⌝ }
+    requires { ⌜ PairTable (now pairs) ⌝ }
+    ensures { λ _. ⌜ now (out .exit) ≡ written (now (out .entry)) at (bytes 4 volume) ⌝ }
+{
+    put_word(out, at, pairs, volume as u64);
+}
+
+// Net, interest posted, unpaid and credit.
+fn put_amounts(out: &mut [u8], at: usize, pairs: &[u8; 512], net: i32, interest: u64, unpaid: u64, credit: u64)
+    requires { ⌜ at + 48 ≤ length (now out) ⌝ }
+    requires { ⌜ PairTable (now pairs) ⌝ }
+    ensures { λ _. ⌜ now (out .exit) ≡ written (now (out .entry)) at (amountsBytes net interest unpaid credit) ⌝ }
+{
+    put_word(out, at, pairs, twos_complement(net) as u64);
+    put_long(out, at + 8, pairs, interest);
+    put_long(out, at + 24, pairs, unpaid);
+    put_word(out, at + 40, pairs, credit);
 }
 
 // Two's complement in 4 bytes.
@@ -297,60 +562,56 @@ fn twos_complement(net: i32) -> u32
     net as u32
 }
 
-// The volumes, 4 bytes each, and the place behind them.
-fn put_volumes(out: &mut [u8], at: usize, volumes: Volumes) -> usize
-    requires { ⌜ at + 56 ≤ length (now out) ⌝ }
-    ensures { λ _. ⌜ now (out .exit) ≡ written (now (out .entry)) at (volumesBytes (take (volumes .count) (volumes .volumes))) ⌝ }
-    ensures { λ r. ⌜ r ≡ at + length (volumesBytes (take (volumes .count) (volumes .volumes))) ⌝ }
-    ensures { λ r. ⌜ r ≤ at + 56 ⌝ }
+// The last eight bytes of a number.
+fn put_long(out: &mut [u8], at: usize, pairs: &[u8; 512], value: u64)
+    requires { ⌜ at + 16 ≤ length (now out) ⌝ }
+    requires { ⌜ PairTable (now pairs) ⌝ }
+    ensures { λ _. ⌜ now (out .exit) ≡ written (now (out .entry)) at (bytes 8 value) ⌝ }
 {
-    let entries = volumes.volumes;
-    let count = volumes.count;
-    let mut i: usize = 0;
-    while i < count {
-        if i == 7 {
-            return at + 56;
-        }
-        put_digits(out, at + 8 * i, 16, 8, entries[i] as u64);
-        i += 1;
+    put_word(out, at, pairs, value / 4_294_967_296);
+    put_word(out, at + 8, pairs, value);
+}
+
+// The last four.
+fn put_word(out: &mut [u8], at: usize, pairs: &[u8; 512], value: u64)
+    requires { ⌜ at + 8 ≤ length (now out) ⌝ }
+    requires { ⌜ PairTable (now pairs) ⌝ }
+    ensures { λ _. ⌜ now (out .exit) ≡ written (now (out .entry)) at (bytes 4 value) ⌝ }
+{
+    if value == 0 {
+        put_zeros(out, at, 8);
+        return;
     }
-    at + 8 * i
+    put_byte(out, at, pairs, value / 16_777_216);
+    put_byte(out, at + 2, pairs, value / 65_536);
+    put_byte(out, at + 4, pairs, value / 256);
+    put_byte(out, at + 6, pairs, value);
 }
 
-// Number, estimated volume and n.
-fn put_head(out: &mut [u8], at: usize, answer: Answer)
-    requires { ⌜ at + 12 ≤ length (now out) ⌝ }
-    ensures { λ _. ⌜ now (out .exit) ≡ written (now (out .entry)) at (answerHead answer) ⌝ }
+// The last one.
+fn put_byte(out: &mut [u8], at: usize, pairs: &[u8; 512], value: u64)
+    requires { ⌜ at + 2 ≤ length (now out) ⌝ }
+    requires { ⌜ PairTable (now pairs) ⌝ }
+    ensures { λ _. ⌜ now (out .exit) ≡ written (now (out .entry)) at (bytes 1 value) ⌝ }
 {
-    put_digits(out, at, 16, 2, answer.number as u64);
-    put_digits(out, at + 2, 16, 8, answer.estimated as u64);
-    put_digits(out, at + 10, 16, 2, answer.volumes.count as u64);
+    let byte = (value % 256) as usize;
+    let high = pairs[2 * byte];
+    let low = pairs[2 * byte + 1];
+    out[at] = high;
+    out[at + 1] = low;
 }
 
-// Net, interest posted, unpaid and credit.
-fn put_amounts(out: &mut [u8], at: usize, answer: Answer)
-    requires { ⌜ at + 48 ≤ length (now out) ⌝ }
-    ensures { λ _. ⌜ now (out .exit) ≡ written (now (out .entry)) at (answerAmounts answer) ⌝ }
+// The line of an open item.
+pub fn put_notice(item: Item, out: &mut [u8], at: usize)
+    requires { ⌜ at + noticeLength ≤ length (now out) ⌝ }
+    ensures { λ _. ⌜ now (out .exit) ≡ written (now (out .entry)) at (noticeLine item) ⌝ }
 {
-    put_digits(out, at, 16, 8, twos_complement(answer.net) as u64);
-    put_digits(out, at + 8, 16, 16, answer.interest);
-    put_digits(out, at + 24, 16, 16, answer.unpaid);
-    put_digits(out, at + 40, 16, 8, answer.credit);
-}
-
-// An answer's line, and the place behind it.
-pub fn put_answer(answer: Answer, out: &mut [u8], at: usize) -> usize
-    requires { ⌜ at + longestAnswer ≤ length (now out) ⌝ }
-    ensures { λ _. ⌜ now (out .exit) ≡ written (now (out .entry)) at (answerLine answer) ⌝ }
-    ensures { λ r. ⌜ r ≡ at + length (answerLine answer) ⌝ }
-    ensures { λ r. ⌜ r ≤ at + longestAnswer ⌝ }
-{
-    put_head(out, at, answer);
-    let volumes = answer.volumes;
-    let next = put_volumes(out, at + 12, volumes);
-    put_amounts(out, next, answer);
-    out[next + 48] = 10;
-    next + 49
+    let kind = item.kind;
+    put_digits(out, at, 16, 2, kind_number(kind));
+    put_date(out, at + 2, item.obligation);
+    put_date(out, at + 10, item.due);
+    put_digits(out, at + 18, 16, 16, item.unpaid);
+    out[at + 34] = 10;
 }
 
 // 01 interest, 02 price
@@ -381,15 +642,34 @@ fn put_date(out: &mut [u8], at: usize, day: u16)
     }
 }
 
-// The line of an open item.
-pub fn put_notice(item: Item, out: &mut [u8], at: usize)
-    requires { ⌜ at + noticeLength ≤ length (now out) ⌝ }
-    ensures { λ _. ⌜ now (out .exit) ≡ written (now (out .entry)) at (noticeLine item) ⌝ }
+// The last digits of a number in a base, from a place on.
+fn put_digits(out: &mut [u8], at: usize, base: u64, width: usize, value: u64)
+    requires { ⌜ at + width ≤ length (now out) ⌝ }
+    requires { ⌜ 1 ≤ base ⌝ }
+    requires { ⌜ base ≤ 16 ⌝ }
+    ensures { λ _. ⌜ now (out .exit) ≡ written (now (out .entry)) at (digits base width value) ⌝ }
 {
-    let kind = item.kind;
-    put_digits(out, at, 16, 2, kind_number(kind));
-    put_date(out, at + 2, item.obligation);
-    put_date(out, at + 10, item.due);
-    put_digits(out, at + 18, 16, 16, item.unpaid);
-    out[at + 34] = 10;
+    if value == 0 {
+        put_zeros(out, at, width);
+        return;
+    }
+    let mut rest = value;
+    let mut i = width;
+    while i > 0 {
+        i -= 1;
+        out[at + i] = glyph_of((rest % base) as u8);
+        rest = rest / base;
+    }
+}
+
+// So many characters 0, from a place on.
+fn put_zeros(out: &mut [u8], at: usize, width: usize)
+    requires { ⌜ at + width ≤ length (now out) ⌝ }
+    ensures { λ _. ⌜ now (out .exit) ≡ written (now (out .entry)) at (replicate width 48) ⌝ }
+{
+    let mut i: usize = 0;
+    while i < width {
+        out[at + i] = 48;
+        i += 1;
+    }
 }

@@ -23,25 +23,25 @@ use Rattle.text.proofs.feed.Statement.{statement}
 use Rattle.text.proofs.feed.Tie as tie
 
 abbrev Inv-loop : tie.InvT-loop
-Inv-loop input out₀ table account₀ length₀ line₀ taken₀ written₀ out account kept-length line taken written =
+Inv-loop input out₀ table pairs account₀ length₀ line₀ taken₀ written₀ out account kept-length line taken written =
     (taken ≤ length input) × (written ≤ length out) × (length out ≡ length out₀) × (length line ≡ 31) ×
     Ahead (feeding (length out₀) (state account₀ length₀ line₀) input) out₀ taken written (feeding (length out₀ - written) (state account kept-length line) (drop taken input)) out × Reached account
 
 abbrev μ-loop : tie.MeasureT-loop
-μ-loop input out₀ table account₀ length₀ line₀ taken₀ written₀ out account kept-length line taken written = length input - taken
+μ-loop input out₀ table pairs account₀ length₀ line₀ taken₀ written₀ out account kept-length line taken written = length input - taken
 
 -- Where the loop stands: the text and the input at the start, what the whole input makes, and what is kept.
 abbrev At : Type 0
 At = tie.At-loop Inv-loop μ-loop
 
 abbrev text : At → List ℕ
-text l = l .before .before .before .before .before .before .args .out .now
+text l = l .before .before .before .before .before .before .before .args .out .now
 
 abbrev bytes : At → List ℕ
-bytes l = l .before .before .before .before .before .before .args .input .now
+bytes l = l .before .before .before .before .before .before .before .args .input .now
 
 abbrev made : At → Feeding
-made l = feeding (length (text l)) (l .before .before .before .before .before .before .args .state) (bytes l)
+made l = feeding (length (text l)) (l .before .before .before .before .before .before .before .args .state) (bytes l)
 
 abbrev stands : At → State
 stands l = state (l .loop .account) (l .loop .length) (l .loop .line)
@@ -75,18 +75,21 @@ light-is c =
 line-is : (c : tie.After-answer-line Inv-loop μ-loop) → c .answer-line .result ≡ lineEnds (stands (c .before .before .before .before .before .before .before .before .before .before .before))
 line-is c = c .answer-line .ensures ∙ ap (parsedOutcome (c .before .before .before .before .before .before .before .before .before .before .before .loop .account)) (read-is (c .before .before .before))
 
-put-length : (c : tie.After-put-answer Inv-loop μ-loop) → length (c .put-answer .last .1 .0) ≡ length (c .before .before .before .before .before .before .before .before .before .before .before .before .before .before .loop .out)
+put-length : (c : tie.After-put-answer Inv-loop μ-loop) → length (c .put-answer .last .1 .0) ≡ length (c .before .before .before .before .before .before .before .before .before .before .before .before .before .before .before .loop .out)
 put-length c = search needs
 
-put-length-2 : (c : tie.After-put-answer2 Inv-loop μ-loop) → length (c .put-answer2 .last .1 .0) ≡ length (c .before .before .before .before .before .before .before .before .before .before .before .before .before .loop .out)
+put-length-2 : (c : tie.After-put-answer2 Inv-loop μ-loop) → length (c .put-answer2 .last .1 .0) ≡ length (c .before .before .before .before .before .before .before .before .before .before .before .before .before .before .loop .out)
 put-length-2 c = search needs
 
-digit-table-requires : tie.Need-digit-table-requires Inv-loop μ-loop
-digit-table-requires c κs = tt
+value-table-requires : tie.Need-value-table-requires Inv-loop μ-loop
+value-table-requires c κs = tt
+
+pair-table-requires : tie.Need-pair-table-requires Inv-loop μ-loop
+pair-table-requires c κs = tt
 
 loop-holds : tie.Need-loop-holds Inv-loop μ-loop
-loop-holds c = let size = length (c .before .before .before .before .before .args .out .now) in
-    (omega arith, omega arith, refl, search needs, rw (sub-zero size) (ahead-start (feeding size (c .before .before .before .before .before .args .state) (c .before .before .before .before .before .args .input .now)) (c .before .before .before .before .before .args .out .now)), c .before .before .before .before .before .pre)
+loop-holds c = let size = length (c .before .before .before .before .before .before .args .out .now) in
+    (omega arith, omega arith, refl, search needs, rw (sub-zero size) (ahead-start (feeding size (c .before .before .before .before .before .before .args .state) (c .before .before .before .before .before .before .args .input .now)) (c .before .before .before .before .before .before .args .out .now)), c .before .before .before .before .before .before .pre)
 
 shared-slice-read-character : tie.Need-shared-slice-read-character Inv-loop μ-loop
 shared-slice-read-character c = omega arith
@@ -117,11 +120,8 @@ slice-aggregate-decode c = let l = c .before .before .before .before .before .be
     let long : length (l .loop .line) ≡ 31 = l .loop .inv .3 in
     rw (c .before .shown-length .ensures) (sym (length-take-le (min (l .loop .length) 31) (l .loop .line) (omega arith)))
 
-slice-aggregate-decode-2 : tie.Need-slice-aggregate-decode-2 Inv-loop μ-loop
-slice-aggregate-decode-2 c = sym (c .before .before .before .before .before .before .before .before .before .before .digit-table .ensures .long)
-
 decode-requires : tie.Need-decode-requires Inv-loop μ-loop
-decode-requires c κs = c .before .before .before .before .before .before .before .before .before .before .digit-table .ensures
+decode-requires c κs = c .before .before .before .before .before .before .before .before .before .before .before .value-table .ensures
 
 light-line-requires : tie.Need-light-line-requires Inv-loop μ-loop
 light-line-requires c κs = reached-whole (c .before .before .before .before .before .before .before .before .loop .account) (c .before .before .before .before .before .before .before .before .loop .inv .5)
@@ -136,40 +136,40 @@ answer-requires : tie.Need-answer-requires Inv-loop μ-loop
 answer-requires c κs = rw (c .apply .ensures) (lightly-is (c .before) .open-bounds)
 
 put-answer-requires : tie.Need-put-answer-requires Inv-loop μ-loop
-put-answer-requires c κs = omega (arith, c .before .before .before .before .before .before .before .before .before .if2 .left)
+put-answer-requires c κs = (omega (arith, c .before .before .before .before .before .before .before .before .before .before .if2 .left), c .before .before .before .before .before .before .before .before .before .before .before .before .before .before .before .before .before .pair-table .ensures)
 
 loop-less : tie.Need-loop-less Inv-loop μ-loop
-loop-less c = omega (arith, more (c .before .before .before .before .before .before .before .before .before .before .before .before .before .before .before))
+loop-less c = omega (arith, more (c .before .before .before .before .before .before .before .before .before .before .before .before .before .before .before .before))
 
 loop-again : tie.Need-loop-again Inv-loop μ-loop
-loop-again c = let l = c .before .before .before .before .before .before .before .before .before .before .before .before .before .before .before .before in
-    let less : l .loop .taken < length (bytes l) = more (c .before .before .before .before .before .before .before .before .before .before .before .before .before .before .before) in (
+loop-again c = let l = c .before .before .before .before .before .before .before .before .before .before .before .before .before .before .before .before .before in
+    let less : l .loop .taken < length (bytes l) = more (c .before .before .before .before .before .before .before .before .before .before .before .before .before .before .before .before) in (
       omega (arith, less),
-      omega (arith, c .before .before .put-answer .ensures .1 .1, put-length (c .before .before), c .before .before .before .before .before .before .before .before .before .before .before .before .if2 .left),
+      omega (arith, c .before .before .put-answer .ensures .1 .1, put-length (c .before .before), c .before .before .before .before .before .before .before .before .before .before .before .before .before .if2 .left),
       put-length (c .before .before) ∙ l .loop .inv .2,
       l .loop .inv .3,
-      line-ended (made l) (text l) (l .loop .taken) (l .loop .written) (length (text l)) (stands l) (bytes l) (l .loop .out) (l .loop .inv .4) less (c .before .before .before .before .before .before .before .before .before .before .before .before .before .if1 .taken) (omega (arith, c .before .before .before .before .before .before .before .before .before .before .before .before .if2 .left)) (record { account = c .before .before .before .before .before .apply .result; answer = c .before .before .before .before .answer .result }) (light-is (c .before .before .before .before)) (c .before .before .put-answer .last .1 .0) (c .before .before .put-answer .ensures .0) (c .before .before .put-answer .result) (c .before .before .put-answer .ensures .1 .0),
-      rw (ap (λ (o : Outcome). o .account) (light-is (c .before .before .before .before))) (reached-line (l .loop .account) (take (l .loop .length) (l .loop .line)) (l .loop .inv .5)),
+      line-ended (made l) (text l) (l .loop .taken) (l .loop .written) (length (text l)) (stands l) (bytes l) (l .loop .out) (l .loop .inv .4) less (c .before .before .before .before .before .before .before .before .before .before .before .before .before .before .if1 .taken) (omega (arith, c .before .before .before .before .before .before .before .before .before .before .before .before .before .if2 .left)) (record { account = c .before .before .before .before .before .before .apply .result; answer = c .before .before .before .before .before .answer .result }) (light-is (c .before .before .before .before .before)) (c .before .before .put-answer .last .1 .0) (c .before .before .put-answer .ensures .0) (c .before .before .put-answer .result) (c .before .before .put-answer .ensures .1 .0),
+      rw (ap (λ (o : Outcome). o .account) (light-is (c .before .before .before .before .before))) (reached-line (l .loop .account) (take (l .loop .length) (l .loop .line)) (l .loop .inv .5)),
     )
 
 answer-line-requires : tie.Need-answer-line-requires Inv-loop μ-loop
 answer-line-requires c κs = reached-whole (c .before .before .before .before .before .before .before .before .before .before .loop .account) (c .before .before .before .before .before .before .before .before .before .before .loop .inv .5)
 
 put-answer-requires-2 : tie.Need-put-answer-requires-2 Inv-loop μ-loop
-put-answer-requires-2 c κs = omega (arith, c .before .before .before .before .before .before .before .before .if2 .left)
+put-answer-requires-2 c κs = (omega (arith, c .before .before .before .before .before .before .before .before .before .if2 .left), c .before .before .before .before .before .before .before .before .before .before .before .before .before .before .before .before .pair-table .ensures)
 
 loop-less-2 : tie.Need-loop-less-2 Inv-loop μ-loop
-loop-less-2 c = omega (arith, more (c .before .before .before .before .before .before .before .before .before .before .before .before .before .before .before))
+loop-less-2 c = omega (arith, more (c .before .before .before .before .before .before .before .before .before .before .before .before .before .before .before .before))
 
 loop-again-2 : tie.Need-loop-again-2 Inv-loop μ-loop
-loop-again-2 c = let l = c .before .before .before .before .before .before .before .before .before .before .before .before .before .before .before .before in
-    let less : l .loop .taken < length (bytes l) = more (c .before .before .before .before .before .before .before .before .before .before .before .before .before .before .before) in (
+loop-again-2 c = let l = c .before .before .before .before .before .before .before .before .before .before .before .before .before .before .before .before .before in
+    let less : l .loop .taken < length (bytes l) = more (c .before .before .before .before .before .before .before .before .before .before .before .before .before .before .before .before) in (
       omega (arith, less),
-      omega (arith, c .before .before .before .put-answer2 .ensures .1 .1, put-length-2 (c .before .before .before), c .before .before .before .before .before .before .before .before .before .before .before .before .if2 .left),
+      omega (arith, c .before .before .before .put-answer2 .ensures .1 .1, put-length-2 (c .before .before .before), c .before .before .before .before .before .before .before .before .before .before .before .before .before .if2 .left),
       put-length-2 (c .before .before .before) ∙ l .loop .inv .2,
       l .loop .inv .3,
-      line-ended (made l) (text l) (l .loop .taken) (l .loop .written) (length (text l)) (stands l) (bytes l) (l .loop .out) (l .loop .inv .4) less (c .before .before .before .before .before .before .before .before .before .before .before .before .before .if1 .taken) (omega (arith, c .before .before .before .before .before .before .before .before .before .before .before .before .if2 .left)) (c .before .before .before .before .before .answer-line .result) (line-is (c .before .before .before .before .before)) (c .before .before .before .put-answer2 .last .1 .0) (c .before .before .before .put-answer2 .ensures .0) (c .before .before .before .put-answer2 .result) (c .before .before .before .put-answer2 .ensures .1 .0),
-      rw (line-is (c .before .before .before .before .before)) (reached-line (l .loop .account) (take (l .loop .length) (l .loop .line)) (l .loop .inv .5)),
+      line-ended (made l) (text l) (l .loop .taken) (l .loop .written) (length (text l)) (stands l) (bytes l) (l .loop .out) (l .loop .inv .4) less (c .before .before .before .before .before .before .before .before .before .before .before .before .before .before .if1 .taken) (omega (arith, c .before .before .before .before .before .before .before .before .before .before .before .before .before .if2 .left)) (c .before .before .before .before .before .before .answer-line .result) (line-is (c .before .before .before .before .before .before)) (c .before .before .before .put-answer2 .last .1 .0) (c .before .before .before .put-answer2 .ensures .0) (c .before .before .before .put-answer2 .result) (c .before .before .before .put-answer2 .ensures .1 .0),
+      rw (line-is (c .before .before .before .before .before .before)) (reached-line (l .loop .account) (take (l .loop .length) (l .loop .line)) (l .loop .inv .5)),
     )
 
 add-taken-2 : tie.Need-add-taken-2 Inv-loop μ-loop
@@ -224,7 +224,8 @@ feed-spec =
     (tie.spec
     Inv-loop
     μ-loop
-    digit-table-requires
+    value-table-requires
+    pair-table-requires
     loop-holds
     shared-slice-read-character
     sub-if2
@@ -234,7 +235,6 @@ feed-spec =
     shown-length-requires
     array-share-prefix-line
     slice-aggregate-decode
-    slice-aggregate-decode-2
     decode-requires
     light-line-requires
     add-taken

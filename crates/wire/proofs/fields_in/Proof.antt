@@ -1,0 +1,100 @@
+-- A line of another size or kind is no frame; the fields of one that has the size of its kind are read in their places, and by `read-in`
+-- they are sound where the line is a frame and nowhere else.
+use mathlib.Core.Path.{_≡_, refl, sym, ap, _∙_}
+use mathlib.Core.List.{List}
+use Prim.Native.Nat.{ℕ, _+_, _≤_}
+use native.Mathlib.Omega.{arith}
+use lib.ListN.{length, getD}
+use borrow.Author.Needs.{needs}
+use Rattle.wire.specs.declared.Widths.{Widths}
+use Rattle.wire.specs.Numbers.{widthsBy}
+use Rattle.wire.proofs.Frames.{too-short, other-first}
+use Rattle.wire.proofs.Numbers.{Form, Bounds, bounds-in, sized-form, Stands, read-in, none-read, other-size}
+use Rattle.wire.proofs.fields_in.Statement.{statement}
+use Rattle.wire.proofs.fields_in.Tie as tie
+
+-- Where the widths are known, and where the line has their size.
+module _ (c : tie.After-widths-of) where
+  abbrev start : tie.Start
+  start = c .before .before .before .before .before .before
+
+  abbrev line : List ℕ
+  line = start .args .line .now
+
+  abbrev char : ℕ
+  char = getD line 1 0
+
+  abbrev found : Widths
+  found = c .widths-of .result
+
+  nought : getD line 0 0 ≡ 48
+  nought = c .before .before .if2 .left
+
+  long : 6 ≤ length line
+  long = omega arith
+
+module _ (c : tie.Else3) where
+  abbrev known : tie.After-widths-of
+  known = c .before .before
+
+  form : Form (char known) (found known)
+  form =
+      let size-is = ap (λ (w : Widths). w .size) (known .widths-of .ensures) in
+      record { kind = sized-form (char known) (omega (arith, long known, c .if3 .left, size-is)) .kind; is = sym (known .widths-of .ensures) }
+
+  within : Bounds (found known)
+  within = bounds-in (char known) (found known) form
+
+  size-is : length (line known) ≡ 6 + found known .first + found known .second + found known .third + found known .short
+  size-is = c .if3 .left ∙ within .size-is
+
+returns-3 : tie.Need-returns-3
+returns-3 c = let k : tie.After-widths-of = search in
+    let n = other-size (line k) (char k) (omega (arith, long k)) (nought k) refl (λ e. c .before .if3 .taken (e ∙ ap (λ (w : Widths). w .size) (sym (k .widths-of .ensures)))) in
+    none-read (line k) (c .no-frame3 .result) (c .no-frame3 .ensures) n
+
+returns-4 : tie.Need-returns-4
+returns-4 c = let e : tie.Else3 = search in
+    let k = known e in
+    let day : tie.After-field = search in
+    let first : tie.After-field2 = search in
+    let second : tie.After-field3 = search in
+    let third : tie.After-field4 = search in
+    let short : tie.After-field5 = search in
+    let stands : Stands (line k) (char k) (found k) (day .field .result) (first .field2 .result) (second .field3 .result) (third .field4 .result) (short .field5 .result) =
+        record {
+          form = form e;
+          nought = nought k;
+          kind = refl;
+          long = e .if3 .left;
+          day-is = day .field .ensures;
+          first-is = first .field2 .ensures;
+          second-is = second .field3 .ensures;
+          third-is = third .field4 .ensures;
+          short-is = short .field5 .ensures;
+        } in
+    read-in (line k) (char k) (found k) (day .field .result) (first .field2 .result) (second .field3 .result) (third .field4 .result) (short .field5 .result) stands (c .checked .result) (c .checked .ensures)
+
+pub fields-in-spec : {M : Type 1} → statement M
+fields-in-spec =
+    tie.close
+    (tie.spec
+    (λ c κs. search needs)  -- no-frame-requires
+    (λ c. let s : tie.Start = search in none-read (s .args .line .now) (c .no-frame .result) (c .no-frame .ensures) (too-short (s .args .line .now) (omega arith)))  -- returns
+    (λ c. search needs)  -- shared-slice-read-if2
+    (λ c κs. search needs)  -- no-frame-requires-2
+    (λ c. let s : tie.Start = search in none-read (s .args .line .now) (c .no-frame2 .result) (c .no-frame2 .ensures) (other-first (s .args .line .now) (omega arith) (c .before .if2 .taken)))  -- returns-2
+    (λ c. search needs)  -- shared-slice-read-kind
+    (λ c κs. search needs)  -- widths-of-requires
+    (λ c κs. search needs)  -- no-frame-requires-3
+    returns-3
+    (λ c. let e : tie.Else3 = search in omega (arith, within e .first-most))  -- add-second-at
+    (λ c. let e : tie.Else3 = search in omega (arith, within e .first-most, within e .second-most))  -- add-third-at
+    (λ c κs. search needs)  -- field-requires
+    (λ c κs. let e : tie.Else3 = search in (omega (arith, size-is e), (within e .first-most, start (known e) .pre)))  -- field-requires-2
+    (λ c κs. let e : tie.Else3 = search in (omega (arith, size-is e), (within e .second-most, start (known e) .pre)))  -- field-requires-3
+    (λ c κs. let e : tie.Else3 = search in (omega (arith, size-is e), (within e .third-most, start (known e) .pre)))  -- field-requires-4
+    (λ c. let e : tie.Else3 = search in omega (arith, within e .first-most, within e .second-most, within e .third-most))  -- add-field
+    (λ c κs. let e : tie.Else3 = search in (omega (arith, size-is e), (omega (arith, within e .short-most), start (known e) .pre)))  -- field-requires-5
+    (λ c κs. search needs)  -- checked-requires
+    returns-4)
