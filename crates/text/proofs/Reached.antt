@@ -5,7 +5,7 @@ use mathlib.Core.List.{List, [], _∷_, _++_}
 use Prim.Native.Nat.{ℕ}
 use Rattle.ledger.specs.Posting.{Tidy}
 use Rattle.account.specs.declared.Account.{Account}
-use Rattle.account.specs.declared.Call.{Call}
+use Rattle.plan.specs.declared.Call.{Call}
 use Rattle.account.specs.Calls.{newAccount}
 use Rattle.account.specs.Outcomes.{outcome}
 use Rattle.account.specs.declared.light.Light.{Light}

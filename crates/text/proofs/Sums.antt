@@ -5,7 +5,7 @@ use Prim.Native.Nat.{ℕ, _+_}
 use native.Mathlib.Nat.{zero-add, add-zero}
 use native.Mathlib.Omega.{arith}
 use Rattle.lists.specs.Sum.{total}
-use Rattle.account.specs.declared.Call.{Call}
+use Rattle.plan.specs.declared.Call.{Call}
 use Rattle.account.specs.Calls.{newAccount}
 use Rattle.audit.specs.Claim.{Run, start, step, run, finalVolume}
 use Rattle.audit.proofs.Theorem.{reconciled}

@@ -8,7 +8,7 @@ use Rattle.lists.specs.Joined.{joined}
 use Rattle.ledger.specs.declared.Item.{Item}
 use Rattle.account.specs.declared.Account.{Account}
 use Rattle.account.specs.declared.Answer.{Answer}
-use Rattle.account.specs.declared.Call.{Call}
+use Rattle.plan.specs.declared.Call.{Call}
 use Rattle.account.specs.declared.Outcome.{Outcome}
 use Rattle.account.specs.declared.light.Light.{Light}
 use Rattle.account.specs.Calls.{newAccount}

@@ -2,7 +2,7 @@
 use mathlib.Core.Path.{_≡_}
 use mathlib.Core.List.{List}
 use Rattle.account.specs.declared.Account.{Account}
-use Rattle.account.specs.declared.Call.{Call}
+use Rattle.plan.specs.declared.Call.{Call}
 use Rattle.audit.specs.Claim.{start, run}
 
 pub record Reached (a : Account) : Type 0 where

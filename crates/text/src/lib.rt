@@ -14,7 +14,7 @@ ghost use Rattle.text.specs.Lines.{linesOf};
 ghost use Rattle.text.specs.Pieces.{Sums};
 ghost use Rattle.text.specs.Feeding.{fresh, feeding, finishing, fedOf};
 use account::Account;
-use account::Call;
+use plan::Call;
 use account::Outcome;
 use account::light::Light;
 use ledger::Ledger;

@@ -12,8 +12,8 @@ use borrow.Author.Tests.{lt-leb, le-leb, ltb-true, ltb-false, eq-eqb}
 use Rattle.lists.specs.Sum.{sum}
 use Rattle.lists.specs.Every.{every}
 use Rattle.lists.proofs.Every.{every-behind}
-use Rattle.account.specs.declared.Call.{Call}
-use Rattle.account.specs.declared.Call.the-variants.{Opening, Reading, Missed, Absent, Exchange, Disconnection, Reconnection, Cancellation, Payment, StoppedCancellation}
+use Rattle.plan.specs.declared.Call.{Call}
+use Rattle.plan.specs.declared.Call.the-variants.{Opening, Reading, Missed, Absent, Exchange, Disconnection, Reconnection, Cancellation, Payment, StoppedCancellation}
 use Rattle.wire.specs.declared.Parsed.{Parsed}
 use Rattle.wire.specs.declared.Parsed.the-variants.{Frame, NotAFrame}
 use Rattle.wire.specs.Digits.{isDigit, valueOf, glyph, digits, bytes, numberOf}

@@ -13,7 +13,7 @@ use borrow.Author.Tests.{eq-eqb, ne-eqb, eqb-true, leb-true}
 use Rattle.lists.specs.Every.{every}
 use Rattle.lists.proofs.Every.{every-behind}
 use Rattle.lists.proofs.Pad.{length-take-most}
-use Rattle.account.specs.declared.Call.{Call}
+use Rattle.plan.specs.declared.Call.{Call}
 use Rattle.wire.specs.declared.Parsed.the-variants.{Frame, NotAFrame}
 use Rattle.wire.specs.declared.Fields.{Fields}
 use Rattle.wire.specs.declared.Widths.{Widths}

@@ -6,8 +6,8 @@ use lib.Dec.{eqb}
 use lib.ListN.{take, drop}
 use Rattle.lists.specs.Sum.{sum}
 use Rattle.tariff.specs.declared.Fuel.{Fuel}
-use Rattle.account.specs.declared.Call.{Call}
-use Rattle.account.specs.declared.Call.the-variants.{Opening, Reading, Missed, Absent, Exchange, Disconnection, Reconnection, Cancellation, Payment, StoppedCancellation}
+use Rattle.plan.specs.declared.Call.{Call}
+use Rattle.plan.specs.declared.Call.the-variants.{Opening, Reading, Missed, Absent, Exchange, Disconnection, Reconnection, Cancellation, Payment, StoppedCancellation}
 use Rattle.wire.specs.declared.Parsed.{Parsed}
 use Rattle.wire.specs.declared.Parsed.the-variants.{Frame, NotAFrame}
 use Rattle.wire.specs.Digits.{numberOf}

@@ -9,7 +9,7 @@ ghost use Rattle.wire.specs.Notices.{kindNumber, dateDigits, noticeLine,
 ghost use Rattle.wire.specs.Frames.{parsed};
 ghost use Rattle.wire.specs.Numbers.{widths, widthsBy, noFields, fieldsOf, callOf, SmallIn, Checked, ReadIn, ReadAt, Begins, Any2, Any3};
 use account::Answer;
-use account::Call;
+use plan::Call;
 use calendar::Day;
 use calendar::FoundDate;
 use ledger::Item;
