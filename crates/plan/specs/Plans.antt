@@ -117,12 +117,17 @@ abbrev pub askingPlan : Head → Status → Entry → Plan
 askingPlan h status entry =
     record { number = 0; head = headOn h status (entry .day) (h .meter); change = Kept; asks = true; entry = entry; estimated = 0; count = 0; net = pos 0 }
 
+abbrev pub moneyEntry : ℕ → ℕ → Bool → Entry
+moneyEntry day money posts = record { day = day; money = money; closes = false; charge = 0; posts = posts }
+
 abbrev pub paymentPlan : Head → ℕ → ℕ → Plan
-paymentPlan h day yen =
-    askingPlan h (h .status) (record { day = day; money = yen; closes = false; charge = 0; posts = isCancelled (h .status) })
+paymentPlan h day yen = askingPlan h (h .status) (moneyEntry day yen (isCancelled (h .status)))
+
+abbrev pub heldEntry : ℕ → Entry
+heldEntry day = record { day = day; money = 0; closes = true; charge = 0; posts = false }
 
 abbrev pub stoppedPlan : Head → ℕ → Plan
-stoppedPlan h day = askingPlan h Cancelled (record { day = day; money = 0; closes = true; charge = 0; posts = false })
+stoppedPlan h day = askingPlan h Cancelled (heldEntry day)
 
 -- 03 and 04.
 module _ (h : Head) (day : ℕ) (fuel : Fuel) (absent : Bool) (volume : ℕ) where

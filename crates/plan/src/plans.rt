@@ -11,7 +11,7 @@ ghost use Rattle.plan.specs.Statuses.{isNew, isStopped, stopOf};
 ghost use Rattle.plan.specs.Closing.{resumedStart};
 ghost use Rattle.plan.specs.Limits.{mostVolume};
 ghost use Rattle.plan.specs.Refusals.{begins, dialRefusal, missRefusal, exchangeRefusal, paymentRefusal, readingRefusal};
-ghost use Rattle.plan.specs.Plans.{HeadBounds, EstimatesFit, ends, statusAfter, quietPlan, plannedAs, volumesAs, begunPlan, exchangedPlan, paymentPlan, stoppedPlan, askingPlan, missPlan, finals, figuredPlan, readPlan, planned, plannedVolumes, filledWith, reads};
+ghost use Rattle.plan.specs.Plans.{HeadBounds, EstimatesFit, ends, statusAfter, quietPlan, plannedAs, volumesAs, begunPlan, exchangedPlan, paymentPlan, stoppedPlan, askingPlan, moneyEntry, heldEntry, missPlan, finals, figuredPlan, readPlan, planned, plannedVolumes, filledWith, reads};
 use crate::Call;
 use crate::Change;
 use crate::Figures;
@@ -249,13 +249,7 @@ fn plan_payment(head: Head, day: u16, yen: u32) -> Plan
     asking(
         head,
         status,
-        Entry {
-            day,
-            money: yen as u64,
-            closes: false,
-            charge: 0,
-            posts: is_cancelled(status),
-        },
+        money_entry(day, yen as u64, is_cancelled(status)),
     )
 }
 
@@ -268,17 +262,33 @@ fn plan_stopped(head: Head, day: u16) -> Plan
     if number != 0 {
         return quiet(number, head);
     }
-    asking(
-        head,
-        Status::Cancelled,
-        Entry {
-            day,
-            money: 0,
-            closes: true,
-            charge: 0,
-            posts: false,
-        },
-    )
+    asking(head, Status::Cancelled, held_entry(day))
+}
+
+// Money comes in.
+fn money_entry(day: u16, money: u64, posts: bool) -> Entry
+    ensures { λ r. ⌜ r ≡ moneyEntry day money posts ⌝ }
+{
+    Entry {
+        day,
+        money,
+        closes: false,
+        charge: 0,
+        posts,
+    }
+}
+
+// Interest held is posted.
+fn held_entry(day: u16) -> Entry
+    ensures { λ r. ⌜ r ≡ heldEntry day ⌝ }
+{
+    Entry {
+        day,
+        money: 0,
+        closes: true,
+        charge: 0,
+        posts: false,
+    }
 }
 
 // A plan that asks something of the ledger, and no more.

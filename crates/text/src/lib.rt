@@ -14,10 +14,10 @@ ghost use Rattle.text.specs.Lines.{linesOf};
 ghost use Rattle.text.specs.Pieces.{Sums};
 ghost use Rattle.text.specs.Feeding.{fresh, feeding, finishing, fedOf};
 use account::Account;
-use plan::Call;
 use account::Outcome;
 use account::light::Light;
 use ledger::Ledger;
+use plan::Call;
 use wire::Parsed;
 
 // What is kept between pieces: the account, and the first 31 characters of a line that has begun.

@@ -62,17 +62,17 @@ returns-4 c = let e : tie.Else3 = search in
     let third : tie.After-field4 = search in
     let short : tie.After-field5 = search in
     let stands : Stands (line k) (char k) (found k) (day .field .result) (first .field2 .result) (second .field3 .result) (third .field4 .result) (short .field5 .result) =
-        record {
-          form = form e;
-          nought = nought k;
-          kind = refl;
-          long = e .if3 .left;
-          day-is = day .field .ensures;
-          first-is = first .field2 .ensures;
-          second-is = second .field3 .ensures;
-          third-is = third .field4 .ensures;
-          short-is = short .field5 .ensures;
-        } in
+    record {
+      form = form e;
+      nought = nought k;
+      kind = refl;
+      long = e .if3 .left;
+      day-is = day .field .ensures;
+      first-is = first .field2 .ensures;
+      second-is = second .field3 .ensures;
+      third-is = third .field4 .ensures;
+      short-is = short .field5 .ensures;
+    } in
     read-in (line k) (char k) (found k) (day .field .result) (first .field2 .result) (second .field3 .result) (third .field4 .result) (short .field5 .result) stands (c .checked .result) (c .checked .ensures)
 
 pub fields-in-spec : {M : Type 1} → statement M

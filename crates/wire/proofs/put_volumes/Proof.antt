@@ -32,7 +32,6 @@ lent l = start l .args .volumes .now
 long : (l : Walk tie.At-loop) → length (lent l) ≡ 7
 long l = start l .pre .0
 
-
 returns : Walk tie.Need-returns
 returns c = let l : Walk tie.At-loop = search in
     let all : take (start l .args .count) (lent l) ≡ take 7 (lent l) = take-past (start l .args .count) 7 (lent l) (long l) (omega arith) in

@@ -1,8 +1,6 @@
 use mathlib.Core.Path.{ap, _∙_}
-use mathlib.Core.Bool.{Bool, false}
 use borrow.Author.Needs.{needs}
-use Rattle.plan.specs.declared.Plan.{Plan}
-use Rattle.plan.specs.Plans.{askingPlan}
+use Rattle.plan.specs.Plans.{askingPlan, moneyEntry}
 use Rattle.plan.proofs.Planning.{plan-declined, plan-passed}
 use Rattle.plan.proofs.plans.plan_payment.Statement.{statement}
 use Rattle.plan.proofs.plans.plan_payment.Tie as tie
@@ -17,8 +15,8 @@ returns-2 c =
     let d : tie.After-payment-refusal = search in
     let one : tie.Else1 = search in
     let s = d .before .args in
-    let asks : Bool → Plan = λ posts. askingPlan (s .head) (s .head .status) (record { day = s .day; money = s .yen; closes = false; charge = 0; posts = posts }) in
-    c .asking .ensures ∙ ap asks (c .before .is-cancelled .ensures) ∙ plan-passed (d .payment-refusal .ensures) (one .if1 .left) _ _
+    let asked = c .before .money-entry .ensures ∙ ap (moneyEntry (s .day) (s .yen)) (c .before .before .is-cancelled .ensures) in
+    c .asking .ensures ∙ ap (askingPlan (s .head) (s .head .status)) asked ∙ plan-passed (d .payment-refusal .ensures) (one .if1 .left) _ _
 
 pub plan-payment-spec : {M : Type 1} → statement M
 plan-payment-spec =
@@ -28,5 +26,6 @@ plan-payment-spec =
     (λ c κs. search needs)  -- quiet-requires
     returns
     (λ c κs. search needs)  -- is-cancelled-requires
+    (λ c κs. search needs)  -- money-entry-requires
     (λ c κs. search needs)  -- asking-requires
     returns-2)

@@ -1,7 +1,9 @@
-use mathlib.Core.Path.{_≡_, _∙_}
+use mathlib.Core.Path.{_≡_, ap, _∙_}
 use borrow.Author.Needs.{needs}
+use Rattle.plan.specs.declared.Status.the-variants.{Cancelled}
 use Rattle.plan.specs.Statuses.{isStopped}
 use Rattle.plan.specs.Refusals.{begins}
+use Rattle.plan.specs.Plans.{askingPlan}
 use Rattle.plan.proofs.Planning.{plan-declined, plan-passed}
 use Rattle.plan.proofs.plans.plan_stopped.Statement.{statement}
 use Rattle.plan.proofs.plans.plan_stopped.Tie as tie
@@ -18,7 +20,9 @@ returns c =
 returns-2 : tie.Need-returns-2
 returns-2 c =
     let d : tie.After-start-refusal = search in
-    c .asking .ensures ∙ plan-passed (number-is d) (c .before .if1 .left) _ _
+    let one : tie.Else1 = search in
+    let s = d .before .before .args in
+    c .asking .ensures ∙ ap (askingPlan (s .head) Cancelled) (c .before .held-entry .ensures) ∙ plan-passed (number-is d) (one .if1 .left) _ _
 
 pub plan-stopped-spec : {M : Type 1} → statement M
 plan-stopped-spec =
@@ -28,5 +32,6 @@ plan-stopped-spec =
     (λ c κs. search needs)  -- start-refusal-requires
     (λ c κs. search needs)  -- quiet-requires
     returns
+    (λ c κs. search needs)  -- held-entry-requires
     (λ c κs. search needs)  -- asking-requires
     returns-2)
