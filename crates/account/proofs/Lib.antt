@@ -6,4 +6,4 @@ pub mod Sound
 pub mod Ready
 pub mod Concluding
 pub mod Working
-pub mod Stepping
+pub mod Carrying

@@ -29,7 +29,7 @@ use Rattle.plan.specs.Statuses.{isCancelled}
 use Rattle.plan.specs.Plans.{changed, statusAfter, paymentPlan, stoppedPlan, missPlan, finals, readPlan, passedPlan, passedVolumes, filledWith}
 use Rattle.account.specs.declared.Account.{Account}
 use Rattle.account.specs.Calls.{headOf, standingEstimates, Work, work, read, missed, cancelled, paidLedger, payment, stoppedCancellation}
-use Rattle.account.specs.Steps.{accountOf, workOf}
+use Rattle.account.specs.Works.{accountOf, workOf}
 
 -- A closing asks what its definition says, and the interest that it posts is what was held.
 closing-asked : (day : ℕ) (net : ℤ) (posts : Bool) (s : Standing)

@@ -4,4 +4,4 @@ pub mod Calls
 pub mod Whole
 pub mod Refusals
 pub mod Outcomes
-pub mod Steps
+pub mod Works

@@ -11,7 +11,7 @@ ghost use Rattle.plan.specs.Plans.{changed, Room};
 ghost use Rattle.account.specs.Calls.{headOf};
 ghost use Rattle.account.specs.Whole.{whole};
 ghost use Rattle.account.specs.Outcomes.{declined, concluded, outcome};
-ghost use Rattle.account.specs.Steps.{accountOf, answerOf, workOf};
+ghost use Rattle.account.specs.Works.{accountOf, answerOf, workOf};
 use crate::Account;
 use crate::Answer;
 use crate::Outcome;

@@ -6,7 +6,6 @@ ghost use Rattle.account.specs.Outcomes.{outcome};
 
 pub mod calls;
 mod limits;
-pub mod steps;
 mod whole;
 
 use crate::calls::decline;

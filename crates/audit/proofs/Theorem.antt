@@ -15,11 +15,12 @@ use Rattle.account.specs.declared.Account.{Account}
 use Rattle.plan.specs.declared.Call.{Call}
 use Rattle.account.specs.declared.Outcome.{Outcome}
 use Rattle.plan.specs.declared.Call.the-variants.{Opening, Reading, Missed, Absent, Exchange, Disconnection, Reconnection, Cancellation, Payment, StoppedCancellation}
-use Rattle.account.specs.Calls.{headOf, newAccount, Work, work}
+use Rattle.account.specs.Calls.{standingEstimates, headOf, newAccount, Work, work}
 use Rattle.plan.specs.Statuses.{isNew, isStopped}
 use Rattle.plan.specs.Refusals.{firstRefusal}
 use Rattle.account.specs.Refusals.{refusal}
 use Rattle.account.specs.Outcomes.{accepted, declined, outcome}
+use Rattle.plan.specs.Closing.{storedEstimates}
 use Rattle.account.specs.Whole.{madeMeter, madeEstimates, madeLedger, asMade, whole}
 use Rattle.account.proofs.Facts.{facts-whole}
 use Rattle.account.proofs.Passed
@@ -28,7 +29,7 @@ use Rattle.plan.proofs.Passed.{begun, reading-passed, miss-passed, dial-passed,
 use Rattle.audit.specs.Book.{Book, newPeriod, prices, acceptMiss, accept, enter}
 use Rattle.audit.specs.Claim.{Run, start, step, run, finalVolume, unpaidOn, Reconciled, Done, Ran, seen}
 use Rattle.audit.proofs.Balance.{standing-is, yen-sum}
-use Rattle.audit.proofs.Matching.{Matched, supply, stop}
+use Rattle.audit.proofs.Matching.{Matched, supply, stop, estimates-stand}
 use Rattle.audit.proofs.Readings.{reading-matched, disconnection-matched, cancellation-matched, reading-advanced}
 use Rattle.audit.proofs.Misses.{miss-matched}
 use Rattle.audit.proofs.Meters.{opening-matched, reconnection-matched, exchange-matched}
@@ -153,6 +154,12 @@ pub tidy : (calls : List Call) → Tidy (run start calls .account .ledger)
 tidy calls =
     let balanced = run-holds start calls start-holds .matched .balanced in
     balanced .stored-as ∙ ap stored (sym (standing-is balanced))
+
+-- So does the array of estimates.
+pub tidy-estimates : (calls : List Call) → let a = run start calls .account in a .estimates ≡ storedEstimates (standingEstimates a)
+tidy-estimates calls =
+    let metered = run-holds start calls start-holds .matched .metered in
+    metered .estimates-are ∙ ap storedEstimates (sym (estimates-stand metered))
 
 -- What runs is the run of its calls.
 seen-is : (r : Run) (done : List Done) → Ran (r .account) done → seen r done ≡ run r (map (λ d. d .call) done)

@@ -477,7 +477,7 @@ fn status_after(then: Then, day: u16) -> Status
 }
 
 // A plan that asks nothing of the ledger.
-fn quiet(number: u8, head: Head) -> Plan
+pub fn quiet(number: u8, head: Head) -> Plan
     ensures { λ r. ⌜ r ≡ quietPlan number head ⌝ }
 {
     Plan {

@@ -22,9 +22,7 @@ use Rattle.wire.proofs.Writing.{written-behind, length-notice}
 use Rattle.text.specs.declared.State.{State}
 use Rattle.text.specs.Output.{noticesOf}
 use Rattle.text.specs.Feeding.{kept, lineEnds, ended, Feeding, nothing, behind, feeding, finishing, fedOf}
-
-abbrev pub state : Account → ℕ → List ℕ → State
-state account long line = record { account = account; length = long; line = line }
+use Rattle.text.specs.Going.{state, Leads, writing}
 
 -- Of the input's next byte, the three ways.
 pub feed-ends : (room : ℕ) (s : State) (c : ℕ) (cs : List ℕ) → c ≡ 10 → longestAnswer ≤ room → feeding room s (c ∷ cs) ≡ behind (answerLine (lineEnds s .answer)) (feeding (room - length (answerLine (lineEnds s .answer))) (ended s) cs)
@@ -64,12 +62,22 @@ pub ahead-start : (whole : Feeding) (text : List ℕ) → Ahead whole text 0 0 w
 ahead-start whole text =
     record { same-state = refl; same-text = refl; same-taken = sym (zero-add (whole .taken)); same-length = sym (zero-add (length (whole .output))) }
 
-pub ahead-on : (whole : Feeding) (text : List ℕ) (taken place : ℕ) (xs : List ℕ) (rest : Feeding) (out : List ℕ) → Ahead whole text taken place (behind xs rest) out → Ahead whole text (taken + 1) (place + length xs) rest (written out place xs)
-ahead-on whole text taken place xs rest out a =
+pub ahead-leads : {whole : Feeding} {text : List ℕ} {from taken place : ℕ} {f g : Feeding} {out : List ℕ} → Ahead whole text from place f out → Leads from taken f g → Ahead whole text taken place g out
+ahead-leads {text = text} {place = place} {out = out} a l =
+    record {
+      same-state = a .same-state ∙ l .same-state;
+      same-text = a .same-text ∙ ap (written out place) (l .same-output);
+      same-taken = a .same-taken ∙ l .same-taken;
+      same-length = a .same-length ∙ ap (λ xs. place + length xs) (l .same-output);
+    }
+
+-- What is to be written first was written.
+pub ahead-put : {whole : Feeding} {text : List ℕ} {taken place : ℕ} {rest : Feeding} {out : List ℕ} (xs : List ℕ) → Ahead whole text taken place (writing xs rest) out → Ahead whole text taken (place + length xs) rest (written out place xs)
+ahead-put {place = place} {rest = rest} {out = out} xs a =
     record {
       same-state = a .same-state;
       same-text = a .same-text ∙ written-behind out place xs (rest .output);
-      same-taken = a .same-taken ∙ omega arith;
+      same-taken = a .same-taken;
       same-length = a .same-length ∙ rw (length-append xs (rest .output)) (omega arith);
     }
 
@@ -78,29 +86,6 @@ ahead-done whole text taken place s out a = rw (a .same-state, a .same-taken, a 
 
 pub ahead-text : (whole : Feeding) (text : List ℕ) (taken place : ℕ) (s : State) (out : List ℕ) → Ahead whole text taken place (nothing s) out → out ≡ written text 0 (whole .output)
 ahead-text whole text taken place s out a = sym (a .same-text)
-
--- A feeding under way, by what the next byte is. The room left is size - place.
-module _ (whole : Feeding) (text : List ℕ) (taken place size : ℕ) (s : State) (input out : List ℕ) (a : Ahead whole text taken place (feeding (size - place) s (drop taken input)) out) where
-  next-byte : taken < length input → Ahead whole text taken place (feeding (size - place) s (getD input taken 0 ∷ drop (suc taken) input)) out
-  next-byte h = rw (← drop-cons input taken 0 h) a
-
-  pub line-ended : taken < length input → getD input taken 0 ≡ 10 → longestAnswer ≤ size - place → (o : Outcome) → o ≡ lineEnds s → (text′ : List ℕ) → text′ ≡ written out place (answerLine (o .answer)) → (place′ : ℕ) → place′ ≡ place + length (answerLine (o .answer)) → Ahead whole text (taken + 1) place′ (feeding (size - place′) (state (o .account) 0 (s .line)) (drop (taken + 1) input)) text′
-  line-ended h e r o f text′ g place′ k =
-      rw (g, k, f, add-one taken, room (length (answerLine (lineEnds s .answer)))) (rw (add-one taken) at (ahead-on whole text taken place (answerLine (lineEnds s .answer)) (feeding (size - place - length (answerLine (lineEnds s .answer))) (ended s) (drop (suc taken) input)) out (rw (feed-ends (size - place) s (getD input taken 0) (drop (suc taken) input) e r) at (next-byte h))))
-    where
-      room : (n : ℕ) → size - (place + n) ≡ size - place - n
-      room n = omega arith
-
-  pub line-waits : taken < length input → getD input taken 0 ≡ 10 → size - place < longestAnswer → Ahead whole text taken place (nothing s) out
-  line-waits h e r = rw (feed-stops (size - place) s (getD input taken 0) (drop (suc taken) input) e r) at (next-byte h)
-
-  pub byte-kept : taken < length input → (getD input taken 0 ≡ 10 → ⊥) → (s′ : State) → kept s (getD input taken 0) ≡ s′ → Ahead whole text (taken + 1) place (feeding (size - place) s′ (drop (taken + 1) input)) out
-  byte-kept h n s′ f =
-      rw (← f, add-one taken) (rw (add-one taken, add-zero place) at (ahead-on whole text taken place [] (feeding (size - place) (kept s (getD input taken 0)) (drop (suc taken) input)) out (rw (feed-keeps (size - place) s (getD input taken 0) (drop (suc taken) input) n) at (next-byte h))))
-
-  pub input-ended : length input ≤ taken → Ahead whole text taken place (nothing s) out
-  unfolding feeding
-  input-ended h = rw (drop-of-length-le input h) at a
 
 -- At the end of the input.
 pub finish-none : (room : ℕ) (s : State) → s .length ≡ 0 → finishing room s ≡ nothing s

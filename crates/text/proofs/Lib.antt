@@ -5,3 +5,6 @@ pub mod Pieces
 pub mod Sums
 pub mod Working
 pub mod Reached
+pub mod Going
+pub mod Planning
+pub mod Entering

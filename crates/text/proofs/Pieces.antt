@@ -25,10 +25,10 @@ use Rattle.text.proofs.Feeding.{feed-ends, finish-none, finish-line}
 use Rattle.text.proofs.Lines.{lines-split, lines-on, part-on, answers-behind, account-behind}
 
 pub holds-fresh : Holds fresh []
-holds-fresh = record { line-is = refl; length-is = refl; line-long = refl }
+holds-fresh = record { line-is = refl; length-is = refl; line-long = refl; clear = λ z. refl }
 
 holds-ended : (s : State) (part : List ℕ) → Holds s part → Holds (ended s) []
-holds-ended s part h = record { line-is = refl; length-is = refl; line-long = h .line-long }
+holds-ended s part h = record { line-is = refl; length-is = refl; line-long = refl; clear = λ z. refl }
 
 holds-kept : (s : State) (part : List ℕ) (c : ℕ) → Holds s part → Holds (kept s c) (part ++ (c ∷ []))
 holds-kept s part c h = go (ltb (s .length) 31) refl
@@ -40,12 +40,12 @@ holds-kept s part c h = go (ltb (s .length) 31) refl
         let short : length part < 31 = omega arith in
         let long = length-append part (c ∷ []) in
         let whole : take (suc (s .length)) (set (s .line) (s .length) c) ≡ take 31 (part ++ (c ∷ [])) = take-suc-set (s .line) (s .length) c (rw (h .line-long) within) ∙ ap (λ xs. xs ++ (c ∷ [])) (h .line-is ∙ take-all 31 part (le-of-lt short)) ∙ sym (take-all 31 (part ++ (c ∷ [])) (omega arith)) in
-        rw e (record { line-is = whole; length-is = omega arith; line-long = length-set (s .line) (s .length) c ∙ h .line-long })
+        rw e (record { line-is = whole; length-is = omega arith; line-long = length-set (s .line) (s .length) c ∙ h .line-long; clear = λ z. absurd (suc-ne-zero (s .length) z) })
     go false e =
         let full : 31 ≤ s .length = ltb-false (s .length) 31 e in
         let count = h .length-is in
         let long = length-append part (c ∷ []) in
-        rw e (record { line-is = h .line-is ∙ sym (take-append-le 31 part (c ∷ []) (omega arith)); length-is = omega arith; line-long = h .line-long })
+        rw e (record { line-is = h .line-is ∙ sym (take-append-le 31 part (c ∷ []) (omega arith)); length-is = omega arith; line-long = h .line-long; clear = h .clear })
 
 -- What is kept of a line is enough to read it.
 line-read : (s : State) (part : List ℕ) → Holds s part → parsed (lineOf s) ≡ parsed part

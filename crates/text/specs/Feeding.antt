@@ -4,6 +4,7 @@ use mathlib.Core.List.{List, [], _∷_, _++_}
 use Prim.Native.Nat.{ℕ, suc, _+_, _-_}
 use lib.Dec.{eqb, ltb}
 use lib.ListN.{length, set, take, replicate}
+use Rattle.account.specs.declared.Account.{Account}
 use Rattle.account.specs.declared.Outcome.{Outcome}
 use Rattle.account.specs.Calls.{newAccount}
 use Rattle.wire.specs.Answers.{lineFeed, answerLine, longestAnswer}
@@ -15,8 +16,15 @@ use Rattle.text.specs.Output.{lineOutcome}
 abbrev pub keptMost : ℕ
 keptMost = 31
 
+abbrev pub blankLine : List ℕ
+blankLine = replicate keptMost 0
+
+-- No line has begun.
+abbrev pub between : Account → State
+between a = record { account = a; length = 0; line = blankLine }
+
 abbrev pub fresh : State
-fresh = record { account = newAccount; length = 0; line = replicate keptMost 0 }
+fresh = between newAccount
 
 -- The part of a line that came.
 abbrev pub lineOf : State → List ℕ
@@ -28,8 +36,9 @@ kept s c = cond (ltb (s .length) keptMost) (record { account = s .account; lengt
 abbrev pub lineEnds : State → Outcome
 lineEnds s = lineOutcome (s .account) (lineOf s)
 
+-- A line that has ended leaves no trace.
 abbrev pub ended : State → State
-ended s = record { account = lineEnds s .account; length = 0; line = s .line }
+ended s = between (lineEnds s .account)
 
 -- What a piece makes: the state behind it, what is written, how many bytes of the piece were taken.
 pub record Feeding : Type 0 where

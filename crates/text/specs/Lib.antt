@@ -4,3 +4,5 @@ pub mod Output
 pub mod Feeding
 pub mod Pieces
 pub mod Reached
+pub mod Going
+pub mod Working

@@ -10,10 +10,8 @@ use Rattle.account.specs.declared.Account.{Account}
 use Rattle.account.specs.declared.Answer.{Answer}
 use Rattle.plan.specs.declared.Call.{Call}
 use Rattle.account.specs.declared.Outcome.{Outcome}
-use Rattle.account.specs.declared.light.Light.{Light}
 use Rattle.account.specs.Calls.{newAccount}
 use Rattle.account.specs.Outcomes.{outcome, declined}
-use Rattle.account.specs.LightCalls.{notLight, lightOf}
 use Rattle.wire.specs.declared.Parsed.{Parsed}
 use Rattle.wire.specs.declared.Parsed.the-variants.{Frame, NotAFrame}
 use Rattle.wire.specs.Digits.{written}
@@ -29,11 +27,6 @@ parsedOutcome a NotAFrame = declined a 40
 
 abbrev pub lineOutcome : Account → List ℕ → Outcome
 lineOutcome a line = parsedOutcome a (parsed line)
-
--- What a line changes, where it is a light call.
-abbrev pub lightLine : Account → Parsed → Light
-lightLine a (Frame call) = lightOf a call
-lightLine a NotAFrame = notLight
 
 -- Each line on the account that the line before left.
 unfoldable pub answersOf : Account → List (List ℕ) → List Answer

@@ -14,7 +14,7 @@ use Rattle.wire.specs.Answers.{lineFeed, answerLine}
 use Rattle.text.specs.declared.State.{State}
 use Rattle.text.specs.Lines.{linesOf}
 use Rattle.text.specs.Output.{answersOf, accountAfter, callsOf}
-use Rattle.text.specs.Feeding.{lineOf, feeding}
+use Rattle.text.specs.Feeding.{blankLine, lineOf, feeding}
 
 -- The lines that end in what came, behind the part of a line, and the part that it leaves.
 unfoldable pub linesIn : List ℕ → List ℕ → List (List ℕ)
@@ -34,6 +34,7 @@ pub record Holds (s : State) (part : List ℕ) : Type 0 where
   pub line-is : lineOf s ≡ take 31 part
   pub length-is : s .length ≡ min (length part) 31
   pub line-long : length (s .line) ≡ 31
+  pub clear : s .length ≡ 0 → s .line ≡ blankLine
 
 -- Where feeding stands: what was taken, and what was written for it.
 pub record Stands (seen out : List ℕ) (s : State) : Type 0 where

@@ -21,7 +21,7 @@ use Rattle.plan.proofs.Bounds.{entry-within, change-room}
 use Rattle.account.specs.declared.Account.{Account}
 use Rattle.account.specs.Calls.{headOf, standingEstimates}
 use Rattle.account.specs.Outcomes.{concluded}
-use Rattle.account.specs.Steps.{workOf}
+use Rattle.account.specs.Works.{workOf}
 use Rattle.account.proofs.Concluding.{outcome-declined, outcome-concluded}
 use Rattle.account.proofs.Ready.{head-bounds, estimates-fit, misses-most, estimates-within}
 use Rattle.account.proofs.Working.{plan-works, zeros-filled}

@@ -16,11 +16,11 @@ use Rattle.account.specs.declared.Answer.{Answer}
 use Rattle.account.specs.declared.Outcome.{Outcome}
 use Rattle.account.specs.Refusals.{lastRefusal}
 use Rattle.account.specs.Outcomes.{accepted}
-use Rattle.account.specs.Steps.{accountOf, workOf}
+use Rattle.account.specs.Works.{accountOf, workOf}
 use Rattle.account.proofs.Concluding.{concluded-accepted, concluded-declined}
 use Rattle.account.proofs.Ready.{count-most, whole-within, open-bounds}
 use Rattle.account.proofs.Working.{quiet-says, asking-says, next-asked, places-few}
-use Rattle.account.proofs.Stepping.{last-none}
+use Rattle.account.proofs.Carrying.{last-none}
 use Rattle.account.proofs.calls.carry_out.Statement.{statement}
 use Rattle.account.proofs.calls.carry_out.Tie as tie
 

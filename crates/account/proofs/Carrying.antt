@@ -1,19 +1,18 @@
--- What a call comes to, on an account and where its items lie, by its plan. Assumes nothing.
-use mathlib.Core.Path.{_≡_, refl, sym, ap, subst, _∙_}
-use mathlib.Core.Bool.{Bool, true, false, cond}
+-- What a call comes to by its plan, on an account whose items lie in lanes. Assumes nothing.
+use mathlib.Core.Path.{_≡_, refl, sym, ap, _∙_}
+use mathlib.Core.Bool.{true, false}
 use mathlib.Core.List.{List}
-use Prim.Native.Nat.{ℕ, _+_, _≤_}
+use Prim.Native.Nat.{ℕ, _≤_}
 use native.Mathlib.Omega.{arith}
-use lib.ListN.{length, take, replicate}
-use lib.Seq.{take-append-seam}
-use borrow.Author.Tests.{le-leb, eq-eqb, ne-eqb}
+use lib.ListN.{length, take}
+use borrow.Author.Tests.{le-leb, ne-eqb}
 use Rattle.meter.specs.declared.Estimates.{Estimates}
 use Rattle.meter.specs.Sharing as Sharing
 use Rattle.ledger.specs.declared.Entry.{Entry}
 use Rattle.ledger.specs.declared.Item.{Item}
 use Rattle.ledger.specs.declared.Ledger.{Ledger}
 use Rattle.ledger.specs.declared.Queue.{Queue}
-use Rattle.ledger.specs.Limits.{capacity, mostCredit, mostEnd}
+use Rattle.ledger.specs.Limits.{capacity, mostCredit}
 use Rattle.ledger.specs.Settling.{unpaidOf}
 use Rattle.ledger.specs.Posting.{Standing, standing, stored}
 use Rattle.ledger.specs.Entries.{asked, numberOf, next, interestPosted, Within}
@@ -23,17 +22,16 @@ use Rattle.ledger.proofs.Queues.{part-count}
 use Rattle.plan.specs.declared.Head.{Head}
 use Rattle.plan.specs.declared.Call.{Call}
 use Rattle.plan.specs.declared.Plan.{Plan}
-use Rattle.plan.specs.Limits.{mostMisses}
 use Rattle.plan.specs.Refusals.{firstRefusal}
-use Rattle.plan.specs.Plans.{HeadBounds, EstimatesFit, changed, Room, passedPlan, passedVolumes, planned, plannedVolumes, filledWith}
-use Rattle.plan.proofs.Bounds.{change-room, counted}
+use Rattle.plan.specs.Plans.{EstimatesFit, changed, passedPlan, passedVolumes}
+use Rattle.plan.proofs.Bounds.{counted}
 use Rattle.account.specs.declared.Account.{Account}
 use Rattle.account.specs.declared.Outcome.{Outcome}
-use Rattle.account.specs.Calls.{headOf, standingEstimates, Work, work}
+use Rattle.account.specs.Calls.{headOf, Work, work}
 use Rattle.account.specs.Whole.{whole}
 use Rattle.account.specs.Refusals.{lastRefusal}
 use Rattle.account.specs.Outcomes.{accepted, declined, concluded, outcome}
-use Rattle.account.specs.Steps.{accountOf, EstimatesOf, workOf, stayed, gone, Steps}
+use Rattle.account.specs.Works.{accountOf, workOf}
 use Rattle.account.proofs.Concluding.{concluded-accepted, concluded-declined, outcome-concluded}
 use Rattle.account.proofs.Working.{plan-works, quiet-says, asking-says}
 
@@ -50,59 +48,51 @@ module _ (h : Head) (estimates : Estimates) (s : Standing) (call : Call) where
   abbrev a : Account
   a = accountOf h estimates (stored s)
 
-  -- Where the items lie, how many there are and how much room is left.
-  pub record Lain (after : List Item) (q : Queue) : Type 0 where
-    pub lies : Lies after q
-    pub few : q .count ≤ capacity
-    pub room : q .front + q .count ≤ mostEnd
-
-  -- What comes of it where nothing changes.
-  pub steps-stayed : (n : ℕ) → outcome a call ≡ declined a n → (n ≡ 0 → ⊥) → EstimatesOf h estimates → (after : List Item) (q : Queue) (volumes : List ℕ)
-      → lying after q ≡ s → Lain after q → Steps h estimates s call after (stayed n h q) volumes
-  steps-stayed n e some w after q volumes same lain =
-      record {
-        number-is = sym (ap (λ (x : Outcome). x .answer .number) e);
-        account-is = ap (λ x. accountOf h estimates (stored x)) same ∙ sym (ap (λ (x : Outcome). x .account) e);
-        answer-is = λ none. absurd (some none);
-        counted = w .count-is;
-        room-left = omega arith;
-        lies = lain .lies;
-        few = lain .few;
-        room = lain .room;
-      }
-
   -- And where its plan is carried out.
-  module _ (first : firstRefusal h call ≡ 0) (fit : EstimatesFit h estimates) (volumes : List ℕ) where
+  module _ (first : firstRefusal h call ≡ 0) (fit : EstimatesFit h estimates) where
     abbrev p : Plan
     p = passedPlan h (Sharing.standing estimates) call
+
+    abbrev final : List ℕ
+    final = passedVolumes h (Sharing.standing estimates) call
 
     abbrev pub made : Standing → ℕ → Work
     made x interest =
         record {
           account = accountOf (p .head) (changed (p .change) estimates) (stored x);
           estimated = p .estimated;
-          volumes = passedVolumes h (Sharing.standing estimates) call;
+          volumes = final;
           net = p .net;
           interest = interest;
         }
 
-    pub steps-gone : take (p .count) volumes ≡ passedVolumes h (Sharing.standing estimates) call → (after : List Item) (q : Queue) (x : Standing) (interest : ℕ)
-        → outcome a call ≡ accepted (made x interest) → lying after q ≡ x → Lain after q → Steps h estimates s call after (gone p q interest) volumes
-    steps-gone shown after q x interest e same lain =
+    -- It comes to the call's outcome where the items lie, and what is unpaid of them.
+    pub record Goes (after : List Item) (q : Queue) (interest : ℕ) (volumes : List ℕ) : Type 0 where
+      pub account-is : accountOf (p .head) (changed (p .change) estimates) (stored (lying after q)) ≡ outcome a call .account
+      pub answer-is :
+          record {
+            number = 0;
+            estimated = p .estimated;
+            volumes = Sharing.volumesOf (take (p .count) volumes);
+            net = p .net;
+            interest = interest;
+            unpaid = q .owed;
+            credit = q .credit;
+          } ≡ outcome a call .answer
+      pub counted : changed (p .change) estimates .count ≡ p .head .standing
+
+    pub goes : (volumes : List ℕ) → take (p .count) volumes ≡ final → (after : List Item) (q : Queue) (x : Standing) (interest : ℕ)
+        → outcome a call ≡ accepted (made x interest) → lying after q ≡ x → Lies after q → q .count ≤ capacity → Goes after q interest volumes
+    goes volumes shown after q x interest e same lies most =
         let said : outcome a call ≡ accepted (made (lying after q) interest) = e ∙ ap (λ y. accepted (made y interest)) (sym same) in
-        let few : length (lying after q .open-items) ≤ capacity = omega (arith, part-count (lain .lies), lain .few) in
-        let owed = lain .lies .owed-is ∙ sym (ap (λ (y : Standing). unpaidOf (y .open-items)) (standing-stored (lying after q) few)) in
+        let few : length (lying after q .open-items) ≤ capacity = omega (arith, part-count lies, most) in
+        let owed = lies .owed-is ∙ sym (ap (λ (y : Standing). unpaidOf (y .open-items)) (standing-stored (lying after q) few)) in
         record {
-          number-is = sym (ap (λ (y : Outcome). y .answer .number) said);
           account-is = sym (ap (λ (y : Outcome). y .account) said);
-          answer-is = λ _.
+          answer-is =
               (λ i. record { number = 0; estimated = p .estimated; volumes = Sharing.volumesOf (shown i); net = p .net; interest = interest; unpaid = owed i; credit = q .credit }) ∙
               sym (ap (λ (y : Outcome). y .answer) said);
           counted = counted h estimates (fit .count-is) (omega (arith, fit .few, fit .long)) call;
-          room-left = subst (Room (p .change)) (sym (fit .count-is)) (change-room h (Sharing.standing estimates) call first);
-          lies = lain .lies;
-          few = lain .few;
-          room = lain .room;
         }
 
     module _ (w : whole a ≡ true) (within : Within s) where
@@ -113,7 +103,7 @@ module _ (h : Head) (estimates : Estimates) (s : Standing) (call : Call) where
       head-is : headOf a ≡ h
       head-is = λ i. record { status = h .status; latest = h .latest; meter = h .meter; standing = fit .count-is i }
 
-      works : workOf p (passedVolumes h (Sharing.standing estimates) call) estimates (stored s) ≡ work a call
+      works : workOf p final estimates (stored s) ≡ work a call
       works = ap (λ (x : Head). workOf (passedPlan x (Sharing.standing estimates) call) (passedVolumes x (Sharing.standing estimates) call) estimates (stored s)) (sym head-is) ∙ plan-works a call
 
       concludes : outcome a call ≡ concluded a (work a call)
@@ -121,13 +111,13 @@ module _ (h : Head) (estimates : Estimates) (s : Standing) (call : Call) where
 
       pub outcome-quiet : p .asks ≡ false → outcome a call ≡ accepted (made s 0)
       outcome-quiet f =
-          concludes ∙ ap (concluded a) (sym (quiet-says p (passedVolumes h (Sharing.standing estimates) call) estimates (stored s) f ∙ works)) ∙
+          concludes ∙ ap (concluded a) (sym (quiet-says p final estimates (stored s) f ∙ works)) ∙
           concluded-accepted a (made s 0) (last-none (stored s) (within .count-most) (within .credit-most))
 
       asked-work : p .asks ≡ true → made (asked (p .entry) s) (interestPosted (p .entry) s) ≡ work a call
       asked-work f =
           (λ i. made (asked (p .entry) (sym back i)) (interestPosted (p .entry) (sym back i))) ∙
-          asking-says p (passedVolumes h (Sharing.standing estimates) call) estimates (stored s) f ∙ works
+          asking-says p final estimates (stored s) f ∙ works
 
       pub outcome-asked : p .asks ≡ true → numberOf (asked (p .entry) s) ≡ 0 → outcome a call ≡ accepted (made (asked (p .entry) s) (interestPosted (p .entry) s))
       outcome-asked f z =

@@ -1,0 +1,49 @@
+-- What a plan comes to on an account.
+use mathlib.Core.Bool.{cond}
+use mathlib.Core.List.{List}
+use Prim.Native.Nat.{ℕ}
+use Rattle.meter.specs.declared.Estimates.{Estimates}
+use Rattle.ledger.specs.declared.Ledger.{Ledger}
+use Rattle.ledger.specs.Posting.{standing, stored}
+use Rattle.ledger.specs.Entries.{asked, interestPosted}
+use Rattle.plan.specs.declared.Head.{Head}
+use Rattle.plan.specs.declared.Plan.{Plan}
+use Rattle.plan.specs.Plans.{changed}
+use Rattle.account.specs.declared.Account.{Account}
+use Rattle.account.specs.declared.Answer.{Answer}
+use Rattle.account.specs.Calls.{Work}
+
+-- The account of a head, estimates and a ledger.
+abbrev pub accountOf : Head → Estimates → Ledger → Account
+accountOf h estimates ledger =
+    record { status = h .status; latest = h .latest; meter = h .meter; estimates = estimates; ledger = ledger }
+
+-- The work that a plan comes to.
+abbrev pub ledgerAfter : Plan → Ledger → Ledger
+ledgerAfter p ledger = cond (p .asks) (stored (asked (p .entry) (standing ledger))) ledger
+
+abbrev pub interestAfter : Plan → Ledger → ℕ
+interestAfter p ledger = cond (p .asks) (interestPosted (p .entry) (standing ledger)) 0
+
+abbrev pub workOf : Plan → List ℕ → Estimates → Ledger → Work
+workOf p final estimates ledger =
+    record {
+      account = accountOf (p .head) (changed (p .change) estimates) (ledgerAfter p ledger);
+      estimated = p .estimated;
+      volumes = final;
+      net = p .net;
+      interest = interestAfter p ledger;
+    }
+
+-- The answer of an accepted call, with the volumes that stand in an array.
+abbrev pub answerOf : Plan → List ℕ → ℕ → ℕ → ℕ → Answer
+answerOf p volumes interest unpaid credit =
+    record {
+      number = 0;
+      estimated = p .estimated;
+      volumes = record { count = p .count; volumes = volumes };
+      net = p .net;
+      interest = interest;
+      unpaid = unpaid;
+      credit = credit;
+    }
