@@ -246,7 +246,7 @@ module _ (line : List ℕ) (char : ℕ) (w : Widths) (day first second third sho
   read-in r (inl p) =
       let e = sound-digits lineFeed (p .1) in
       let found : parsedBy (fieldsOf (w .size) char day first second third short) ≡ Frame (callBy char day first second third short) =
-              ap (λ t. cond t NotAFrame (Frame (callBy char day first second third short))) (ne-eqb (w .size) 0 (λ z. omega (arith, z, b .size-is))) in
+      ap (λ t. cond t NotAFrame (Frame (callBy char day first second third short))) (ne-eqb (w .size) 0 (λ z. omega (arith, z, b .size-is))) in
       subst (ReadIn line) (sym (p .0)) (record { is = digits-frame e ∙ sym found; small = digits-small e })
   read-in r (inr p) = subst (ReadIn line) (sym (p .0)) (record { is = no-frame line (λ e. absurd (p .1 (digits-sound e))); small = none-small })
 
@@ -303,6 +303,6 @@ module _ (input : List ℕ) (at char : ℕ) (w : Widths) (day first second third
       let line : List ℕ = take (w .size) (drop at input) in
       let e : every isDigit line ≡ true = sound-digits line char w day first second third short stands-here (getD input (at + w .size) 0) (q .1) in
       let lies : Lies input at (callBy char day first second third short) (w .size) =
-              record { within = omega (arith, p .within, p .begins .room); ends = q .1 .ends; frame = digits-frame line char w day first second third short stands-here e } in
+      record { within = omega (arith, p .within, p .begins .room); ends = q .1 .ends; frame = digits-frame line char w day first second third short stands-here e } in
       subst (ReadAt input at) (sym (q .0)) (record { lies = lies; small = digits-small line char w day first second third short stands-here e })
   read-at r (inr q) h = absurd (h (ap (λ (f : Fields). f .width) (q .0)))

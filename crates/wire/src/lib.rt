@@ -271,7 +271,16 @@ fn field(input: &[u8], table: &[u64; 256], from: usize, width: usize) -> u64
 }
 
 // The fields as they were read, if all are digits and LF follows.
-fn checked(width: usize, kind: u8, day: u64, first: u64, second: u64, third: u64, short: u64, last: u8) -> Fields
+fn checked(
+    width: usize,
+    kind: u8,
+    day: u64,
+    first: u64,
+    second: u64,
+    third: u64,
+    short: u64,
+    last: u8,
+) -> Fields
     ensures { λ r. ⌜ Checked (fieldsOf width kind day first second third short) last r ⌝ }
 {
     if last != 10 {
@@ -431,7 +440,19 @@ pub fn put_accepted(
     ensures { λ r. ⌜ r ≡ at + length (answerLine (acceptance estimated (take count (now (volumes .entry))) net interest unpaid credit)) ⌝ }
     ensures { λ r. ⌜ r ≤ at + longestAnswer ⌝ }
 {
-    put_frame(0, estimated, volumes, count, net, interest, unpaid, credit, out, at, pairs)
+    put_frame(
+        0,
+        estimated,
+        volumes,
+        count,
+        net,
+        interest,
+        unpaid,
+        credit,
+        out,
+        at,
+        pairs,
+    )
 }
 
 // The line of a call that is declined, and the place behind it.
@@ -513,7 +534,13 @@ fn put_head(out: &mut [u8], at: usize, pairs: &[u8; 512], number: u8, estimated:
 }
 
 // The volumes, 4 bytes each, and the place behind them.
-fn put_volumes(out: &mut [u8], at: usize, pairs: &[u8; 512], volumes: &[u32; 7], count: usize) -> usize
+fn put_volumes(
+    out: &mut [u8],
+    at: usize,
+    pairs: &[u8; 512],
+    volumes: &[u32; 7],
+    count: usize,
+) -> usize
     requires { ⌜ length (now volumes) ≡ 7 ⌝ }
     requires { ⌜ at + 56 ≤ length (now out) ⌝ }
     requires { ⌜ PairTable (now pairs) ⌝ }
@@ -541,7 +568,15 @@ fn put_volume(out: &mut [u8], at: usize, pairs: &[u8; 512], volume: u32)
 }
 
 // Net, interest posted, unpaid and credit.
-fn put_amounts(out: &mut [u8], at: usize, pairs: &[u8; 512], net: i32, interest: u64, unpaid: u64, credit: u64)
+fn put_amounts(
+    out: &mut [u8],
+    at: usize,
+    pairs: &[u8; 512],
+    net: i32,
+    interest: u64,
+    unpaid: u64,
+    credit: u64,
+)
     requires { ⌜ at + 48 ≤ length (now out) ⌝ }
     requires { ⌜ PairTable (now pairs) ⌝ }
     ensures { λ _. ⌜ now (out .exit) ≡ written (now (out .entry)) at (amountsBytes net interest unpaid credit) ⌝ }

@@ -16,18 +16,21 @@ returns c = let start : tie.Start = search in
     let first-read : tie.After-field2 = search in
     let second-read : tie.After-field3 = search in
     let third-read : tie.After-field4 = search in
-    let placed : Placed input at kind (widths 8 8 8 0) (day-read .field .result) (first-read .field2 .result) (second-read .field3 .result) (third-read .field4 .result) 0 =
-        record {
-          begins = start .pre .0;
-          form = closing-form kind (start .pre .1 .1);
-          within = omega arith;
-          day-is = day-read .field .ensures;
-          first-is = first-read .field2 .ensures;
-          second-is = second-read .field3 .ensures;
-          third-is = third-read .field4 .ensures;
-          short-is = refl;
-        } in
-    read-at input at kind (widths 8 8 8 0) (day-read .field .result) (first-read .field2 .result) (second-read .field3 .result) (third-read .field4 .result) 0 placed (c .checked .result) (c .checked .ensures)
+    let placed : Placed input at kind (widths 8 8 8 0)
+    (day-read .field .result) (first-read .field2 .result) (second-read .field3 .result) (third-read .field4 .result) 0 =
+    record {
+      begins = start .pre .0;
+      form = closing-form kind (start .pre .1 .1);
+      within = omega arith;
+      day-is = day-read .field .ensures;
+      first-is = first-read .field2 .ensures;
+      second-is = second-read .field3 .ensures;
+      third-is = third-read .field4 .ensures;
+      short-is = refl;
+    } in
+    read-at input at kind (widths 8 8 8 0)
+    (day-read .field .result) (first-read .field2 .result) (second-read .field3 .result) (third-read .field4 .result) 0
+    placed (c .checked .result) (c .checked .ensures)
 
 pub closing-fields-spec : {M : Type 1} → statement M
 closing-fields-spec =

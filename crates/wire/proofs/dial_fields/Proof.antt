@@ -15,18 +15,21 @@ returns c = let start : tie.Start = search in
     let day-read : tie.After-field = search in
     let first-read : tie.After-field2 = search in
     let short-read : tie.After-field3 = search in
-    let placed : Placed input at kind (widths 8 0 0 2) (day-read .field .result) (first-read .field2 .result) 0 0 (short-read .field3 .result) =
-        record {
-          begins = start .pre .0;
-          form = dial-form kind (start .pre .1 .1);
-          within = omega arith;
-          day-is = day-read .field .ensures;
-          first-is = first-read .field2 .ensures;
-          second-is = refl;
-          third-is = refl;
-          short-is = short-read .field3 .ensures;
-        } in
-    read-at input at kind (widths 8 0 0 2) (day-read .field .result) (first-read .field2 .result) 0 0 (short-read .field3 .result) placed (c .checked .result) (c .checked .ensures)
+    let placed : Placed input at kind (widths 8 0 0 2)
+    (day-read .field .result) (first-read .field2 .result) 0 0 (short-read .field3 .result) =
+    record {
+      begins = start .pre .0;
+      form = dial-form kind (start .pre .1 .1);
+      within = omega arith;
+      day-is = day-read .field .ensures;
+      first-is = first-read .field2 .ensures;
+      second-is = refl;
+      third-is = refl;
+      short-is = short-read .field3 .ensures;
+    } in
+    read-at input at kind (widths 8 0 0 2)
+    (day-read .field .result) (first-read .field2 .result) 0 0 (short-read .field3 .result)
+    placed (c .checked .result) (c .checked .ensures)
 
 pub dial-fields-spec : {M : Type 1} → statement M
 dial-fields-spec =

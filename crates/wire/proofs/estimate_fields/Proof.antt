@@ -15,18 +15,21 @@ returns c = let start : tie.Start = search in
     let day-read : tie.After-field = search in
     let first-read : tie.After-field2 = search in
     let second-read : tie.After-field3 = search in
-    let placed : Placed input at kind (widths 8 8 0 0) (day-read .field .result) (first-read .field2 .result) (second-read .field3 .result) 0 0 =
-        record {
-          begins = start .pre .0;
-          form = estimate-form kind (start .pre .1 .1);
-          within = omega arith;
-          day-is = day-read .field .ensures;
-          first-is = first-read .field2 .ensures;
-          second-is = second-read .field3 .ensures;
-          third-is = refl;
-          short-is = refl;
-        } in
-    read-at input at kind (widths 8 8 0 0) (day-read .field .result) (first-read .field2 .result) (second-read .field3 .result) 0 0 placed (c .checked .result) (c .checked .ensures)
+    let placed : Placed input at kind (widths 8 8 0 0)
+    (day-read .field .result) (first-read .field2 .result) (second-read .field3 .result) 0 0 =
+    record {
+      begins = start .pre .0;
+      form = estimate-form kind (start .pre .1 .1);
+      within = omega arith;
+      day-is = day-read .field .ensures;
+      first-is = first-read .field2 .ensures;
+      second-is = second-read .field3 .ensures;
+      third-is = refl;
+      short-is = refl;
+    } in
+    read-at input at kind (widths 8 8 0 0)
+    (day-read .field .result) (first-read .field2 .result) (second-read .field3 .result) 0 0
+    placed (c .checked .result) (c .checked .ensures)
 
 pub estimate-fields-spec : {M : Type 1} → statement M
 estimate-fields-spec =

@@ -16,18 +16,21 @@ returns c = let start : tie.Start = search in
     let first-read : tie.After-field2 = search in
     let second-read : tie.After-field3 = search in
     let short-read : tie.After-field4 = search in
-    let placed : Placed input at kind (widths 8 8 0 2) (day-read .field .result) (first-read .field2 .result) (second-read .field3 .result) 0 (short-read .field4 .result) =
-        record {
-          begins = start .pre .0;
-          form = exchange-form kind (start .pre .1 .1);
-          within = omega arith;
-          day-is = day-read .field .ensures;
-          first-is = first-read .field2 .ensures;
-          second-is = second-read .field3 .ensures;
-          third-is = refl;
-          short-is = short-read .field4 .ensures;
-        } in
-    read-at input at kind (widths 8 8 0 2) (day-read .field .result) (first-read .field2 .result) (second-read .field3 .result) 0 (short-read .field4 .result) placed (c .checked .result) (c .checked .ensures)
+    let placed : Placed input at kind (widths 8 8 0 2)
+    (day-read .field .result) (first-read .field2 .result) (second-read .field3 .result) 0 (short-read .field4 .result) =
+    record {
+      begins = start .pre .0;
+      form = exchange-form kind (start .pre .1 .1);
+      within = omega arith;
+      day-is = day-read .field .ensures;
+      first-is = first-read .field2 .ensures;
+      second-is = second-read .field3 .ensures;
+      third-is = refl;
+      short-is = short-read .field4 .ensures;
+    } in
+    read-at input at kind (widths 8 8 0 2)
+    (day-read .field .result) (first-read .field2 .result) (second-read .field3 .result) 0 (short-read .field4 .result)
+    placed (c .checked .result) (c .checked .ensures)
 
 pub exchange-fields-spec : {M : Type 1} → statement M
 exchange-fields-spec =

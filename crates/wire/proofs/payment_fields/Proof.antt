@@ -14,18 +14,21 @@ returns c = let start : tie.Start = search in
     let kind = start .args .kind in
     let day-read : tie.After-field = search in
     let first-read : tie.After-field2 = search in
-    let placed : Placed input at kind (widths 8 0 0 0) (day-read .field .result) (first-read .field2 .result) 0 0 0 =
-        record {
-          begins = start .pre .0;
-          form = payment-form kind (start .pre .1 .1);
-          within = omega arith;
-          day-is = day-read .field .ensures;
-          first-is = first-read .field2 .ensures;
-          second-is = refl;
-          third-is = refl;
-          short-is = refl;
-        } in
-    read-at input at kind (widths 8 0 0 0) (day-read .field .result) (first-read .field2 .result) 0 0 0 placed (c .checked .result) (c .checked .ensures)
+    let placed : Placed input at kind (widths 8 0 0 0)
+    (day-read .field .result) (first-read .field2 .result) 0 0 0 =
+    record {
+      begins = start .pre .0;
+      form = payment-form kind (start .pre .1 .1);
+      within = omega arith;
+      day-is = day-read .field .ensures;
+      first-is = first-read .field2 .ensures;
+      second-is = refl;
+      third-is = refl;
+      short-is = refl;
+    } in
+    read-at input at kind (widths 8 0 0 0)
+    (day-read .field .result) (first-read .field2 .result) 0 0 0
+    placed (c .checked .result) (c .checked .ensures)
 
 pub payment-fields-spec : {M : Type 1} → statement M
 payment-fields-spec =

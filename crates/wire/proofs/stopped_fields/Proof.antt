@@ -13,18 +13,21 @@ returns c = let start : tie.Start = search in
     let at = start .args .at in
     let kind = start .args .kind in
     let day-read : tie.After-field = search in
-    let placed : Placed input at kind (widths 0 0 0 0) (day-read .field .result) 0 0 0 0 =
-        record {
-          begins = start .pre .0;
-          form = stopped-form kind (start .pre .1 .1);
-          within = omega arith;
-          day-is = day-read .field .ensures;
-          first-is = refl;
-          second-is = refl;
-          third-is = refl;
-          short-is = refl;
-        } in
-    read-at input at kind (widths 0 0 0 0) (day-read .field .result) 0 0 0 0 placed (c .checked .result) (c .checked .ensures)
+    let placed : Placed input at kind (widths 0 0 0 0)
+    (day-read .field .result) 0 0 0 0 =
+    record {
+      begins = start .pre .0;
+      form = stopped-form kind (start .pre .1 .1);
+      within = omega arith;
+      day-is = day-read .field .ensures;
+      first-is = refl;
+      second-is = refl;
+      third-is = refl;
+      short-is = refl;
+    } in
+    read-at input at kind (widths 0 0 0 0)
+    (day-read .field .result) 0 0 0 0
+    placed (c .checked .result) (c .checked .ensures)
 
 pub stopped-fields-spec : {M : Type 1} → statement M
 stopped-fields-spec =
