@@ -7,7 +7,7 @@ use native.Mathlib.Omega.{arith}
 use lib.ListN.{length, getD}
 use borrow.Author.Needs.{needs}
 use Rattle.wire.specs.declared.Widths.{Widths}
-use Rattle.wire.specs.Numbers.{widthsBy}
+use Rattle.wire.specs.Numbers.{fieldsOf}
 use Rattle.wire.proofs.Frames.{too-short, other-first}
 use Rattle.wire.proofs.Numbers.{Form, Bounds, bounds-in, sized-form, Stands, read-in, none-read, other-size}
 use Rattle.wire.proofs.fields_in.Statement.{statement}
@@ -73,24 +73,24 @@ returns-4 c = let e : tie.Else3 = search in
     let second : tie.After-field3 = search in
     let third : tie.After-field4 = search in
     let short : tie.After-field5 = search in
-    let d = day .field .result in
-    let f = first .field2 .result in
-    let s = second .field3 .result in
-    let t = third .field4 .result in
-    let sh = short .field5 .result in
-    let stands : Stands (line k) (char k) (found k) d f s t sh =
+    let w = found k in
+    let read =
+    fieldsOf (w .size) (char k) (day .field .result) (first .field2 .result) (second .field3 .result) (third .field4 .result)
+    (short .field5 .result) in
+    let stands : Stands (line k) w read =
     record {
       form = form e;
       nought = nought k;
       kind = refl;
       long = e .if3 .left;
+      width-is = refl;
       day-is = day .field .ensures;
       first-is = first .field2 .ensures;
       second-is = second .field3 .ensures;
       third-is = third .field4 .ensures;
       short-is = short .field5 .ensures;
     } in
-    read-in (line k) (char k) (found k) d f s t sh stands (c .checked .result) (c .checked .ensures)
+    read-in (line k) w read stands (c .checked .result) (c .checked .ensures)
 
 field-requires-5 : tie.Need-field-requires-5
 field-requires-5 c κs = let e : tie.Else3 = search in
