@@ -1,8 +1,8 @@
 -- Laws of frames as numbers: fields read from a line, or where it lies in an input, are those of the layout. Assumes nothing.
 use mathlib.Core.Path.{_≡_, refl, sym, ap, subst, _∙_}
-use mathlib.Core.Bool.{Bool, true, false, false≢true, cond, _&&_, and-eq-true-iff}
-use mathlib.Core.Logic.{_⊎_, inl, inr, ⊎-elim}
-use mathlib.Core.List.{List, [], _∷_, _++_}
+use mathlib.Core.Bool.{Bool, true, false, cond, _&&_, and-eq-true-iff}
+use mathlib.Core.Logic.{_⊎_, inl, inr}
+use mathlib.Core.List.{List, [], _∷_}
 use Prim.Native.Nat.{ℕ, zero, suc, _+_, _*_, _^_, _≤_, _<_}
 use native.Mathlib.Nat.{add-zero}
 use native.Mathlib.Omega.{arith}
@@ -18,12 +18,12 @@ use Rattle.wire.specs.declared.Parsed.the-variants.{Frame, NotAFrame}
 use Rattle.wire.specs.declared.Fields.{Fields}
 use Rattle.wire.specs.declared.Widths.{Widths}
 use Rattle.wire.specs.Digits.{isDigit, valueOf, noDigit, valueOr, numberOf, readOf}
-use Rattle.wire.specs.Layout.{layout, widthsOf, framed}
+use Rattle.wire.specs.Layout.{layout, framed}
 use Rattle.wire.specs.Frames.{kindOf, parsed}
-use Rattle.wire.specs.Numbers.{widths, noWidths, shapeOf, widthsBy, callBy, fieldsOf, noFields, parsedBy, Small, Sound, Checked, ReadIn, Lies, ReadAt, Begins, Any2, Any3}
+use Rattle.wire.specs.Numbers.{widths, noWidths, shapeOf, widthsBy, callBy, callOf, noFields, parsedBy, Small, SmallIn, SoundIn, Checked, ReadIn, Lies, ReadAt, Begins, Any2, Any3}
 use Rattle.wire.specs.Answers.{lineFeed}
 use Rattle.wire.proofs.Digits.{value-digit, read-digits, digits-read, read-below}
-use Rattle.wire.proofs.Frames.{frame-at, parsed-digits, parsed-others, no-frame, begins-with, digits-begin, kind-is, KindOf, kind-or-not, unknown-widths, unknown-kind}
+use Rattle.wire.proofs.Frames.{frame-at, parsed-digits, no-frame, begins-with, digits-begin, kind-is, KindOf, kind-or-not, unknown-widths, unknown-kind}
 
 -- Parts of a line.
 digits-on : (line : List ℕ) (a b : ℕ) → every isDigit (take a line) ≡ true → every isDigit (take b (drop a line)) ≡ true → every isDigit (take (a + b) line) ≡ true
@@ -49,10 +49,20 @@ part-of (suc k) m (suc n) (x ∷ xs) h = part-of k m n xs (omega arith)
 abbrev numberAt : List ℕ → ℕ → ℕ → ℕ
 numberAt line from width = numberOf (take width (drop from line))
 
+-- Where the second, the third and the short field begin.
+abbrev pub secondAt : Widths → ℕ
+secondAt w = 6 + w .first
+
+abbrev pub thirdAt : Widths → ℕ
+thirdAt w = 6 + w .first + w .second
+
+abbrev pub shortAt : Widths → ℕ
+shortAt w = 6 + w .first + w .second + w .third
+
 abbrev calledIn : ℕ → Widths → List ℕ → Call
 calledIn char w line =
-    callBy char (numberAt line 2 4) (numberAt line 6 (w .first)) (numberAt line (6 + w .first) (w .second))
-    (numberAt line (6 + w .first + w .second) (w .third)) (numberAt line (6 + w .first + w .second + w .third) (w .short))
+    callBy char (numberAt line 2 4) (numberAt line 6 (w .first)) (numberAt line (secondAt w) (w .second))
+    (numberAt line (thirdAt w) (w .third)) (numberAt line (shortAt w) (w .short))
 
 abbrev bounded : Widths → Bool
 bounded w =
@@ -149,17 +159,18 @@ sized-form char h = go (kind-or-not layout char)
     go (inl k) = record { kind = k; is = refl }
     go (inr n) = absurd (omega (arith, h, ap (λ (w : Widths). w .size) (no-form char n)))
 
--- A line of the size of its kind, and what was read in the places of its fields.
-pub record Stands (line : List ℕ) (char : ℕ) (w : Widths) (day first second third short : ℕ) : Type 0 where
-  pub form : Form char w
+-- A line of the size of its kind, and the fields that were read in their places.
+pub record Stands (line : List ℕ) (w : Widths) (f : Fields) : Type 0 where
+  pub form : Form (f .kind) w
   pub nought : getD line 0 0 ≡ 48
-  pub kind : getD line 1 0 ≡ char
+  pub kind : getD line 1 0 ≡ f .kind
   pub long : length line ≡ w .size
-  pub day-is : day ≡ readOf (take 4 (drop 2 line))
-  pub first-is : first ≡ readOf (take (w .first) (drop 6 line))
-  pub second-is : second ≡ readOf (take (w .second) (drop (6 + w .first) line))
-  pub third-is : third ≡ readOf (take (w .third) (drop (6 + w .first + w .second) line))
-  pub short-is : short ≡ readOf (take (w .short) (drop (6 + w .first + w .second + w .third) line))
+  pub width-is : f .width ≡ w .size
+  pub day-is : f .day ≡ readOf (take 4 (drop 2 line))
+  pub first-is : f .first ≡ readOf (take (w .first) (drop 6 line))
+  pub second-is : f .second ≡ readOf (take (w .second) (drop (secondAt w) line))
+  pub third-is : f .third ≡ readOf (take (w .third) (drop (thirdAt w) line))
+  pub short-is : f .short ≡ readOf (take (w .short) (drop (shortAt w) line))
 
 -- Of a frame that begins with 0, the kind is its second character's.
 second-kind : (line : List ℕ) (char : ℕ) → 2 ≤ length line → getD line 0 0 ≡ 48 → getD line 1 0 ≡ char → isDigit char ≡ true → kindOf line ≡ valueOr char
@@ -172,86 +183,87 @@ two-digits : (char : ℕ) → isDigit char ≡ true → every isDigit (48 ∷ ch
 unfolding isDigit
 two-digits char d = rw d refl
 
+none-small : Small 0 0 0 0 0
+none-small = record { in-day = omega arith; in-first = omega arith; in-second = omega arith; in-third = omega arith; in-short = omega arith }
+
+pub none-read : (line : List ℕ) (r : Fields) → r ≡ noFields → parsed line ≡ NotAFrame → ReadIn line r
+none-read line r e n = subst (ReadIn line) (sym e) (record { is = n; small = none-small })
+
 module _ (line : List ℕ) where
   part-digits : (n from m : ℕ) → n ≡ readOf (take m (drop from line)) → n < noDigit → every isDigit (take m (drop from line)) ≡ true
   part-digits n from m e h = read-digits 0 (take m (drop from line)) (subst (λ k. k < noDigit) e h)
 
   part-below : (n from m k : ℕ) → n ≡ readOf (take m (drop from line)) → m ≤ k → every isDigit line ≡ true → n < 16 ^ k
   part-below n from m k e h all =
-      subst (λ j. j < 16 ^ k) (sym e) (read-below (take m (drop from line)) k (omega (arith, h, length-take-most m (drop from line))) (digits-part from m line all))
+      let short : length (take m (drop from line)) ≤ k = omega (arith, h, length-take-most m (drop from line)) in
+      subst (λ j. j < 16 ^ k) (sym e) (read-below (take m (drop from line)) k short (digits-part from m line all))
 
   part-number : (n from m : ℕ) → n ≡ readOf (take m (drop from line)) → every isDigit line ≡ true → numberAt line from m ≡ n
   part-number n from m e all = sym (e ∙ digits-read 0 (take m (drop from line)) (digits-part from m line all))
 
-none-small : Small 0 0 0 0 0
-none-small = record { in-day = omega arith; in-first = omega arith; in-second = omega arith; in-third = omega arith; in-short = omega arith }
-
-module _ (line : List ℕ) (char : ℕ) (w : Widths) (day first second third short : ℕ) (s : Stands line char w day first second third short) where
-  row : Kind char w
-  row = known char w (s .form)
+module _ (line : List ℕ) (w : Widths) (f : Fields) (s : Stands line w f) where
+  row : Kind (f .kind) w
+  row = known (f .kind) w (s .form)
 
   b : Bounds w
-  b = bounds-in char w (s .form)
+  b = bounds-in (f .kind) w (s .form)
 
   two-long : 2 ≤ length line
   two-long = omega (arith, s .long, b .size-is)
 
-  sound-digits : (last : ℕ) → Sound day first second third short last → every isDigit line ≡ true
+  sound-digits : (last : ℕ) → SoundIn f last → every isDigit line ≡ true
   sound-digits last t =
-      let two : every isDigit (take 2 line) ≡ true = rw (begins-with line two-long, s .nought, s .kind) (two-digits char (row .digit)) in
-      let six : every isDigit (take 6 line) ≡ true = digits-on line 2 4 two (part-digits line day 2 4 (s .day-is) (t .in-day)) in
-      let one = digits-on line 6 (w .first) six (part-digits line first 6 (w .first) (s .first-is) (t .in-first)) in
-      let more = digits-on line (6 + w .first) (w .second) one (part-digits line second (6 + w .first) (w .second) (s .second-is) (t .in-second)) in
-      let three = digits-on line (6 + w .first + w .second) (w .third) more (part-digits line third (6 + w .first + w .second) (w .third) (s .third-is) (t .in-third)) in
-      let all = digits-on line (6 + w .first + w .second + w .third) (w .short) three (part-digits line short (6 + w .first + w .second + w .third) (w .short) (s .short-is) (t .in-short)) in
-      rw (take-all (6 + w .first + w .second + w .third + w .short) line (omega (arith, s .long, b .size-is))) at all
+      let two : every isDigit (take 2 line) ≡ true = rw (begins-with line two-long, s .nought, s .kind) (two-digits (f .kind) (row .digit)) in
+      let six : every isDigit (take 6 line) ≡ true = digits-on line 2 4 two (part-digits line (f .day) 2 4 (s .day-is) (t .in-day)) in
+      let one = digits-on line 6 (w .first) six (part-digits line (f .first) 6 (w .first) (s .first-is) (t .in-first)) in
+      let more = digits-on line (secondAt w) (w .second) one (part-digits line (f .second) (secondAt w) (w .second) (s .second-is) (t .in-second)) in
+      let three = digits-on line (thirdAt w) (w .third) more (part-digits line (f .third) (thirdAt w) (w .third) (s .third-is) (t .in-third)) in
+      let all = digits-on line (shortAt w) (w .short) three (part-digits line (f .short) (shortAt w) (w .short) (s .short-is) (t .in-short)) in
+      rw (take-all (shortAt w + w .short) line (omega (arith, s .long, b .size-is))) at all
 
-  digits-sound : every isDigit line ≡ true → Sound day first second third short lineFeed
+  digits-sound : every isDigit line ≡ true → SoundIn f lineFeed
   digits-sound e =
       record {
-        in-day = part-below line day 2 4 8 (s .day-is) (omega arith) e;
-        in-first = part-below line first 6 (w .first) 8 (s .first-is) (b .first-most) e;
-        in-second = part-below line second (6 + w .first) (w .second) 8 (s .second-is) (b .second-most) e;
-        in-third = part-below line third (6 + w .first + w .second) (w .third) 8 (s .third-is) (b .third-most) e;
-        in-short = part-below line short (6 + w .first + w .second + w .third) (w .short) 8 (s .short-is) (omega (arith, b .short-most)) e;
+        in-day = part-below line (f .day) 2 4 8 (s .day-is) (omega arith) e;
+        in-first = part-below line (f .first) 6 (w .first) 8 (s .first-is) (b .first-most) e;
+        in-second = part-below line (f .second) (secondAt w) (w .second) 8 (s .second-is) (b .second-most) e;
+        in-third = part-below line (f .third) (thirdAt w) (w .third) 8 (s .third-is) (b .third-most) e;
+        in-short = part-below line (f .short) (shortAt w) (w .short) 8 (s .short-is) (omega (arith, b .short-most)) e;
         ends = refl;
       }
 
-  digits-small : every isDigit line ≡ true → Small day first second third short
+  digits-small : every isDigit line ≡ true → SmallIn f
   digits-small e =
       let t = digits-sound e in
       record {
-        in-day = part-below line day 2 4 4 (s .day-is) (omega arith) e;
+        in-day = part-below line (f .day) 2 4 4 (s .day-is) (omega arith) e;
         in-first = t .in-first;
         in-second = t .in-second;
         in-third = t .in-third;
-        in-short = part-below line short (6 + w .first + w .second + w .third) (w .short) 2 (s .short-is) (b .short-most) e;
+        in-short = part-below line (f .short) (shortAt w) (w .short) 2 (s .short-is) (b .short-most) e;
       }
 
-  digits-frame : every isDigit line ≡ true → parsed line ≡ Frame (callBy char day first second third short)
+  digits-frame : every isDigit line ≡ true → parsed line ≡ Frame (callOf f)
   digits-frame e =
-      let day-number = part-number line day 2 4 (s .day-is) e in
-      let first-number = part-number line first 6 (w .first) (s .first-is) e in
-      let second-number = part-number line second (6 + w .first) (w .second) (s .second-is) e in
-      let third-number = part-number line third (6 + w .first + w .second) (w .third) (s .third-is) e in
-      let short-number = part-number line short (6 + w .first + w .second + w .third) (w .short) (s .short-is) e in
+      let day = part-number line (f .day) 2 4 (s .day-is) e in
+      let first = part-number line (f .first) 6 (w .first) (s .first-is) e in
+      let second = part-number line (f .second) (secondAt w) (w .second) (s .second-is) e in
+      let third = part-number line (f .third) (thirdAt w) (w .third) (s .third-is) e in
+      let short = part-number line (f .short) (shortAt w) (w .short) (s .short-is) e in
       parsed-digits line e ∙
-      frame-at line (w .size) (valueOr char) (s .long) (second-kind line char two-long (s .nought) (s .kind) (row .digit)) ∙
+      frame-at line (w .size) (valueOr (f .kind)) (s .long) (second-kind line (f .kind) two-long (s .nought) (s .kind) (row .digit)) ∙
       row .told (w .size) line ∙
-      ap (λ t. cond t (Frame (calledIn char w line)) NotAFrame) (eq-eqb (w .size) (w .size) refl) ∙
-      (λ i. Frame (callBy char (day-number i) (first-number i) (second-number i) (third-number i) (short-number i)))
+      ap (λ t. cond t (Frame (calledIn (f .kind) w line)) NotAFrame) (eq-eqb (w .size) (w .size) refl) ∙
+      (λ i. Frame (callBy (f .kind) (day i) (first i) (second i) (third i) (short i)))
 
   -- A line by itself.
-  pub read-in : (r : Fields) → Checked (fieldsOf (w .size) char day first second third short) lineFeed r → ReadIn line r
+  pub read-in : (r : Fields) → Checked f lineFeed r → ReadIn line r
   read-in r (inl p) =
       let e = sound-digits lineFeed (p .1) in
-      let found : parsedBy (fieldsOf (w .size) char day first second third short) ≡ Frame (callBy char day first second third short) =
-      ap (λ t. cond t NotAFrame (Frame (callBy char day first second third short))) (ne-eqb (w .size) 0 (λ z. omega (arith, z, b .size-is))) in
-      subst (ReadIn line) (sym (p .0)) (record { is = digits-frame e ∙ sym found; small = digits-small e })
-  read-in r (inr p) = subst (ReadIn line) (sym (p .0)) (record { is = no-frame line (λ e. absurd (p .1 (digits-sound e))); small = none-small })
-
-pub none-read : (line : List ℕ) (r : Fields) → r ≡ noFields → parsed line ≡ NotAFrame → ReadIn line r
-none-read line r e n = subst (ReadIn line) (sym e) (record { is = n; small = none-small })
+      let found : eqb (f .width) 0 ≡ false = ne-eqb (f .width) 0 (λ z. omega (arith, z, s .width-is, b .size-is)) in
+      let is : parsed line ≡ parsedBy f = digits-frame e ∙ sym (ap (λ t. cond t NotAFrame (Frame (callOf f))) found) in
+      subst (ReadIn line) (sym (p .0)) (record { is = is; small = digits-small e })
+  read-in r (inr p) = none-read line r (p .0) (no-frame line (λ e. absurd (p .1 (digits-sound e))))
 
 -- A line of another size than its kind's.
 pub other-size : (line : List ℕ) (char : ℕ) → 2 ≤ length line → getD line 0 0 ≡ 48 → getD line 1 0 ≡ char → (length line ≡ widthsBy char .size → ⊥) → parsed line ≡ NotAFrame
@@ -259,50 +271,54 @@ other-size line char two z k n =
     no-frame line (λ e. frame-at line (length line) (valueOr char) refl (second-kind line char two z k (rw k at (digits-begin line two e .1))) ∙ go (kind-or-not layout char))
   where
     go : KindOf layout char ⊎ (KindOf layout char → ⊥) → framed layout (length line) (valueOr char) line ≡ NotAFrame
-    go (inl known-kind) =
-        kind-by char known-kind .told (length line) line ∙ ap (λ t. cond t (Frame (calledIn char (widthsBy char) line)) NotAFrame) (ne-eqb (length line) (widthsBy char .size) n)
+    go (inl k) =
+        kind-by char k .told (length line) line ∙
+        ap (λ t. cond t (Frame (calledIn char (widthsBy char) line)) NotAFrame) (ne-eqb (length line) (widthsBy char .size) n)
     go (inr unknown) = unknown-kind char (length line) line unknown
 
 -- The same where a line lies in an input.
-pub record Placed (input : List ℕ) (at char : ℕ) (w : Widths) (day first second third short : ℕ) : Type 0 where
-  pub begins : Begins input at char
-  pub form : Form char w
+pub record Placed (input : List ℕ) (at : ℕ) (w : Widths) (f : Fields) : Type 0 where
+  pub begins : Begins input at (f .kind)
+  pub form : Form (f .kind) w
   pub within : w .size ≤ 30
-  pub day-is : day ≡ readOf (take 4 (drop (at + 2) input))
-  pub first-is : first ≡ readOf (take (w .first) (drop (at + 6) input))
-  pub second-is : second ≡ readOf (take (w .second) (drop (at + (6 + w .first)) input))
-  pub third-is : third ≡ readOf (take (w .third) (drop (at + (6 + w .first + w .second)) input))
-  pub short-is : short ≡ readOf (take (w .short) (drop (at + (6 + w .first + w .second + w .third)) input))
+  pub width-is : f .width ≡ w .size
+  pub day-is : f .day ≡ readOf (take 4 (drop (at + 2) input))
+  pub first-is : f .first ≡ readOf (take (w .first) (drop (at + 6) input))
+  pub second-is : f .second ≡ readOf (take (w .second) (drop (at + secondAt w) input))
+  pub third-is : f .third ≡ readOf (take (w .third) (drop (at + thirdAt w) input))
+  pub short-is : f .short ≡ readOf (take (w .short) (drop (at + shortAt w) input))
 
-module _ (input : List ℕ) (at char : ℕ) (w : Widths) (day first second third short : ℕ) (p : Placed input at char w day first second third short) where
+module _ (input : List ℕ) (at : ℕ) (w : Widths) (f : Fields) (p : Placed input at w f) where
+  abbrev line : List ℕ
+  line = take (w .size) (drop at input)
+
   most : Bounds w
-  most = bounds-in char w (p .form)
+  most = bounds-in (f .kind) w (p .form)
 
-  here : (n k m : ℕ) → k + m ≤ w .size → n ≡ readOf (take m (drop (at + k) input)) → n ≡ readOf (take m (drop k (take (w .size) (drop at input))))
+  here : (n k m : ℕ) → k + m ≤ w .size → n ≡ readOf (take m (drop (at + k) input)) → n ≡ readOf (take m (drop k line))
   here n k m h e = e ∙ ap readOf (sym (part-of k m (w .size) (drop at input) h ∙ ap (take m) (drop-drop k at input)))
 
-  char-here : (k c : ℕ) → k < w .size → getD input (at + k) 0 ≡ c → getD (take (w .size) (drop at input)) k 0 ≡ c
+  char-here : (k c : ℕ) → k < w .size → getD input (at + k) 0 ≡ c → getD line k 0 ≡ c
   char-here k c h e = getD-take (w .size) (drop at input) k 0 h ∙ getD-drop at input k 0 ∙ e
 
-  stands-here : Stands (take (w .size) (drop at input)) char w day first second third short
+  stands-here : Stands line w f
   stands-here =
       record {
         form = p .form;
         nought = char-here 0 48 (omega (arith, most .size-is)) (rw (add-zero at) (p .begins .zero));
-        kind = char-here 1 char (omega (arith, most .size-is)) (p .begins .second);
+        kind = char-here 1 (f .kind) (omega (arith, most .size-is)) (p .begins .second);
         long = length-take-le (w .size) (drop at input) (rw (length-drop at input) (omega (arith, p .begins .room, p .within)));
-        day-is = here day 2 4 (omega (arith, most .size-is)) (p .day-is);
-        first-is = here first 6 (w .first) (omega (arith, most .size-is)) (p .first-is);
-        second-is = here second (6 + w .first) (w .second) (omega (arith, most .size-is)) (p .second-is);
-        third-is = here third (6 + w .first + w .second) (w .third) (omega (arith, most .size-is)) (p .third-is);
-        short-is = here short (6 + w .first + w .second + w .third) (w .short) (omega (arith, most .size-is)) (p .short-is);
+        width-is = p .width-is;
+        day-is = here (f .day) 2 4 (omega (arith, most .size-is)) (p .day-is);
+        first-is = here (f .first) 6 (w .first) (omega (arith, most .size-is)) (p .first-is);
+        second-is = here (f .second) (secondAt w) (w .second) (omega (arith, most .size-is)) (p .second-is);
+        third-is = here (f .third) (thirdAt w) (w .third) (omega (arith, most .size-is)) (p .third-is);
+        short-is = here (f .short) (shortAt w) (w .short) (omega (arith, most .size-is)) (p .short-is);
       }
 
-  pub read-at : (r : Fields) → Checked (fieldsOf (w .size) char day first second third short) (getD input (at + w .size) 0) r → (r .width ≡ 0 → ⊥) → ReadAt input at r
+  pub read-at : (r : Fields) → Checked f (getD input (at + w .size) 0) r → (r .width ≡ 0 → ⊥) → ReadAt input at r
   read-at r (inl q) h =
-      let line : List ℕ = take (w .size) (drop at input) in
-      let e : every isDigit line ≡ true = sound-digits line char w day first second third short stands-here (getD input (at + w .size) 0) (q .1) in
-      let lies : Lies input at (callBy char day first second third short) (w .size) =
-      record { within = omega (arith, p .within, p .begins .room); ends = q .1 .ends; frame = digits-frame line char w day first second third short stands-here e } in
-      subst (ReadAt input at) (sym (q .0)) (record { lies = lies; small = digits-small line char w day first second third short stands-here e })
-  read-at r (inr q) h = absurd (h (ap (λ (f : Fields). f .width) (q .0)))
+      let e : every isDigit line ≡ true = sound-digits line w f stands-here (getD input (at + w .size) 0) (q .1) in
+      let lies : Lies input at (callOf f) (w .size) = record { within = omega (arith, p .within, p .begins .room); ends = q .1 .ends; frame = digits-frame line w f stands-here e } in
+      subst (ReadAt input at) (sym (q .0)) (record { lies = subst (Lies input at (callOf f)) (sym (p .width-is)) lies; small = digits-small line w f stands-here e })
+  read-at r (inr q) h = absurd (h (ap (λ (g : Fields). g .width) (q .0)))

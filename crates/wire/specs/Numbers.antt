@@ -88,11 +88,12 @@ pub record Sound (day first second third short last : ℕ) : Type 0 where
   pub in-short : short < noDigit
   pub ends : last ≡ lineFeed
 
+abbrev pub SoundIn : Fields → ℕ → Type 0
+SoundIn f last = Sound (f .day) (f .first) (f .second) (f .third) (f .short) last
+
 -- The fields as they were read where they are sound, and no frame where they are not.
 abbrev pub Checked : Fields → ℕ → Fields → Type 0
-Checked f last r =
-    ((r ≡ f) × Sound (f .day) (f .first) (f .second) (f .third) (f .short) last) ⊎
-    ((r ≡ noFields) × (Sound (f .day) (f .first) (f .second) (f .third) (f .short) last → ⊥))
+Checked f last r = ((r ≡ f) × SoundIn f last) ⊎ ((r ≡ noFields) × (SoundIn f last → ⊥))
 
 -- What a line by itself is read as.
 pub record ReadIn (line : List ℕ) (r : Fields) : Type 0 where

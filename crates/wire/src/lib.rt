@@ -312,7 +312,7 @@ fn checked(
     }
 }
 
-fn no_frame() -> Fields
+pub fn no_frame() -> Fields
     ensures { λ r. ⌜ r ≡ noFields ⌝ }
 {
     Fields {

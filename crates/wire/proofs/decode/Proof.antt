@@ -12,7 +12,8 @@ returns c = let read : tie.After-fields-in = search in
 
 returns-2 : tie.Need-returns-2
 returns-2 c = let read : tie.After-fields-in = search in
-    ap Frame (c .call-of .ensures) ∙ sym (read .fields-in .ensures .is ∙ rw (ne-eqb (read .fields-in .result .width) 0 (c .before .if1 .left)) refl)
+    ap Frame (c .call-of .ensures) ∙
+    sym (read .fields-in .ensures .is ∙ rw (ne-eqb (read .fields-in .result .width) 0 (c .before .if1 .left)) refl)
 
 pub decode-spec : {M : Type 1} → statement M
 decode-spec =

@@ -2,7 +2,7 @@
 use mathlib.Core.Path.{refl}
 use native.Mathlib.Omega.{arith}
 use borrow.Author.Needs.{needs}
-use Rattle.wire.specs.Numbers.{widths}
+use Rattle.wire.specs.Numbers.{widths, fieldsOf}
 use Rattle.wire.proofs.Numbers.{dial-form, Placed, read-at}
 use Rattle.wire.proofs.dial_fields.Statement.{statement}
 use Rattle.wire.proofs.dial_fields.Tie as tie
@@ -15,18 +15,20 @@ returns c = let start : tie.Start = search in
     let day-read : tie.After-field = search in
     let first-read : tie.After-field2 = search in
     let short-read : tie.After-field3 = search in
-    let placed : Placed input at kind (widths 8 0 0 2) (day-read .field .result) (first-read .field2 .result) 0 0 (short-read .field3 .result) =
+    let read = fieldsOf 16 kind (day-read .field .result) (first-read .field2 .result) 0 0 (short-read .field3 .result) in
+    let placed : Placed input at (widths 8 0 0 2) read =
     record {
       begins = start .pre .0;
       form = dial-form kind (start .pre .1 .1);
       within = omega arith;
+      width-is = refl;
       day-is = day-read .field .ensures;
       first-is = first-read .field2 .ensures;
       second-is = refl;
       third-is = refl;
       short-is = short-read .field3 .ensures;
     } in
-    read-at input at kind (widths 8 0 0 2) (day-read .field .result) (first-read .field2 .result) 0 0 (short-read .field3 .result) placed (c .checked .result) (c .checked .ensures)
+    read-at input at (widths 8 0 0 2) read placed (c .checked .result) (c .checked .ensures)
 
 pub dial-fields-spec : {M : Type 1} → statement M
 dial-fields-spec =

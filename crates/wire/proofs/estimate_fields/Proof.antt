@@ -2,7 +2,7 @@
 use mathlib.Core.Path.{refl}
 use native.Mathlib.Omega.{arith}
 use borrow.Author.Needs.{needs}
-use Rattle.wire.specs.Numbers.{widths}
+use Rattle.wire.specs.Numbers.{widths, fieldsOf}
 use Rattle.wire.proofs.Numbers.{estimate-form, Placed, read-at}
 use Rattle.wire.proofs.estimate_fields.Statement.{statement}
 use Rattle.wire.proofs.estimate_fields.Tie as tie
@@ -15,18 +15,20 @@ returns c = let start : tie.Start = search in
     let day-read : tie.After-field = search in
     let first-read : tie.After-field2 = search in
     let second-read : tie.After-field3 = search in
-    let placed : Placed input at kind (widths 8 8 0 0) (day-read .field .result) (first-read .field2 .result) (second-read .field3 .result) 0 0 =
+    let read = fieldsOf 22 kind (day-read .field .result) (first-read .field2 .result) (second-read .field3 .result) 0 0 in
+    let placed : Placed input at (widths 8 8 0 0) read =
     record {
       begins = start .pre .0;
       form = estimate-form kind (start .pre .1 .1);
       within = omega arith;
+      width-is = refl;
       day-is = day-read .field .ensures;
       first-is = first-read .field2 .ensures;
       second-is = second-read .field3 .ensures;
       third-is = refl;
       short-is = refl;
     } in
-    read-at input at kind (widths 8 8 0 0) (day-read .field .result) (first-read .field2 .result) (second-read .field3 .result) 0 0 placed (c .checked .result) (c .checked .ensures)
+    read-at input at (widths 8 8 0 0) read placed (c .checked .result) (c .checked .ensures)
 
 pub estimate-fields-spec : {M : Type 1} → statement M
 estimate-fields-spec =

@@ -2,7 +2,7 @@
 use mathlib.Core.Path.{refl}
 use native.Mathlib.Omega.{arith}
 use borrow.Author.Needs.{needs}
-use Rattle.wire.specs.Numbers.{widths}
+use Rattle.wire.specs.Numbers.{widths, fieldsOf}
 use Rattle.wire.proofs.Numbers.{exchange-form, Placed, read-at}
 use Rattle.wire.proofs.exchange_fields.Statement.{statement}
 use Rattle.wire.proofs.exchange_fields.Tie as tie
@@ -16,18 +16,21 @@ returns c = let start : tie.Start = search in
     let first-read : tie.After-field2 = search in
     let second-read : tie.After-field3 = search in
     let short-read : tie.After-field4 = search in
-    let placed : Placed input at kind (widths 8 8 0 2) (day-read .field .result) (first-read .field2 .result) (second-read .field3 .result) 0 (short-read .field4 .result) =
+    let read =
+    fieldsOf 24 kind (day-read .field .result) (first-read .field2 .result) (second-read .field3 .result) 0 (short-read .field4 .result) in
+    let placed : Placed input at (widths 8 8 0 2) read =
     record {
       begins = start .pre .0;
       form = exchange-form kind (start .pre .1 .1);
       within = omega arith;
+      width-is = refl;
       day-is = day-read .field .ensures;
       first-is = first-read .field2 .ensures;
       second-is = second-read .field3 .ensures;
       third-is = refl;
       short-is = short-read .field4 .ensures;
     } in
-    read-at input at kind (widths 8 8 0 2) (day-read .field .result) (first-read .field2 .result) (second-read .field3 .result) 0 (short-read .field4 .result) placed (c .checked .result) (c .checked .ensures)
+    read-at input at (widths 8 8 0 2) read placed (c .checked .result) (c .checked .ensures)
 
 pub exchange-fields-spec : {M : Type 1} → statement M
 exchange-fields-spec =

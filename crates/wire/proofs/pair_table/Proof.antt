@@ -15,45 +15,14 @@ abbrev μ-loop : tie.MeasureT-loop
 loop-holds : tie.Need-loop-holds Inv-loop μ-loop
 loop-holds c = (omega arith, refl, record { high = λ b h. absurd (omega arith); low = λ b h. absurd (omega arith) })
 
-cast-glyph-of : tie.Need-cast-glyph-of Inv-loop μ-loop
-cast-glyph-of c = omega arith
-
-glyph-of-requires : tie.Need-glyph-of-requires Inv-loop μ-loop
-glyph-of-requires c κs = omega arith
-
-mul-pairs : tie.Need-mul-pairs Inv-loop μ-loop
-mul-pairs c = omega arith
-
-array-write-pairs : tie.Need-array-write-pairs Inv-loop μ-loop
-array-write-pairs c = omega arith
-
-cast-glyph-of-2 : tie.Need-cast-glyph-of-2 Inv-loop μ-loop
-cast-glyph-of-2 c = omega arith
-
-glyph-of-requires-2 : tie.Need-glyph-of-requires-2 Inv-loop μ-loop
-glyph-of-requires-2 c κs = omega arith
-
-mul-pairs-2 : tie.Need-mul-pairs-2 Inv-loop μ-loop
-mul-pairs-2 c = omega arith
-
-add-pairs : tie.Need-add-pairs Inv-loop μ-loop
-add-pairs c = omega arith
-
-array-write-pairs-2 : tie.Need-array-write-pairs-2 Inv-loop μ-loop
-array-write-pairs-2 c = omega arith
-
-add-byte : tie.Need-add-byte Inv-loop μ-loop
-add-byte c = omega arith
-
-loop-less : tie.Need-loop-less Inv-loop μ-loop
-loop-less c = omega arith
-
 loop-again : tie.Need-loop-again Inv-loop μ-loop
-loop-again c = let at-loop = c .before .before .before in
-    let i = at-loop .loop .byte in (
+loop-again c = let l = c .before .before .before .loop in
+    let high = c .before .glyph-of .result in
+    let low = c .glyph-of2 .result in
+    let high-set = set (l .pairs) (2 * l .byte) high in (
       omega arith,
-      length-set (set (at-loop .loop .pairs) (2 * i) (c .before .glyph-of .result)) (2 * i + 1) (c .glyph-of2 .result) ∙ length-set (at-loop .loop .pairs) (2 * i) (c .before .glyph-of .result) ∙ at-loop .loop .inv .1,
-      rw (c .before .glyph-of .ensures, c .glyph-of2 .ensures) (pairs-next (at-loop .loop .pairs) i (omega arith) (at-loop .loop .inv .2)),
+      length-set high-set (2 * l .byte + 1) low ∙ length-set (l .pairs) (2 * l .byte) high ∙ l .inv .1,
+      rw (c .before .glyph-of .ensures, c .glyph-of2 .ensures) (pairs-next (l .pairs) (l .byte) (omega arith) (l .inv .2)),
     )
 
 returns : tie.Need-returns Inv-loop μ-loop
@@ -68,16 +37,16 @@ pair-table-spec =
     Inv-loop
     μ-loop
     loop-holds
-    cast-glyph-of
-    glyph-of-requires
-    mul-pairs
-    array-write-pairs
-    cast-glyph-of-2
-    glyph-of-requires-2
-    mul-pairs-2
-    add-pairs
-    array-write-pairs-2
-    add-byte
-    loop-less
+    (λ c. omega arith)  -- cast-glyph-of
+    (λ c κs. omega arith)  -- glyph-of-requires
+    (λ c. omega arith)  -- mul-pairs
+    (λ c. omega arith)  -- array-write-pairs
+    (λ c. omega arith)  -- cast-glyph-of-2
+    (λ c κs. omega arith)  -- glyph-of-requires-2
+    (λ c. omega arith)  -- mul-pairs-2
+    (λ c. omega arith)  -- add-pairs
+    (λ c. omega arith)  -- array-write-pairs-2
+    (λ c. omega arith)  -- add-byte
+    (λ c. omega arith)  -- loop-less
     loop-again
     returns)

@@ -18,8 +18,10 @@ returns c = let start : tie.Start = search in
     let a = start .args in
     let text = a .out .now in
     let same : toZ w32 (ofZ w32 (a .net)) ≡ a .net = search needs in
-    let e = ap (λ (n : ℤ). answerLine (answerOf 0 (a .estimated) (a .count) (a .volumes .now) n (a .interest) (a .unpaid) (a .credit))) same ∙
-    accepted-line (a .estimated) (a .count) (a .volumes .now) (a .net) (a .interest) (a .unpaid) (a .credit) (start .pre .0) (start .pre .1 .0) in (
+    let lent = a .volumes .now in
+    let e =
+    ap (λ (n : ℤ). answerLine (answerOf 0 (a .estimated) (a .count) lent n (a .interest) (a .unpaid) (a .credit))) same ∙
+    accepted-line (a .estimated) (a .count) lent (a .net) (a .interest) (a .unpaid) (a .credit) (start .pre .0) (start .pre .1 .0) in (
       put .put-frame .ensures .0 ∙ ap (written text (a .at)) e,
       (put .put-frame .ensures .1 .0 ∙ ap (λ line. a .at + length line) e, put .put-frame .ensures .1 .1),
     )

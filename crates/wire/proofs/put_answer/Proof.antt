@@ -16,7 +16,9 @@ returns c = let start : tie.Start = search in
     let put : tie.After-put-frame = search in
     let a = start .args .answer in
     let same : toZ w32 (ofZ w32 (a .net)) ≡ a .net = search needs in
-    let e = ap (λ (n : ℤ). answerLine (answerOf (a .number) (a .estimated) (a .volumes .count) (a .volumes .volumes) n (a .interest) (a .unpaid) (a .credit))) same in (
+    let v = a .volumes in
+    let with-net = answerOf (a .number) (a .estimated) (v .count) (v .volumes) in
+    let e = ap (λ (n : ℤ). answerLine (with-net n (a .interest) (a .unpaid) (a .credit))) same in (
       put .put-frame .ensures .0 ∙ ap (written (start .args .out .now) (start .args .at)) e,
       (put .put-frame .ensures .1 .0 ∙ ap (λ line. start .args .at + length line) e, put .put-frame .ensures .1 .1),
     )

@@ -14,79 +14,39 @@ date-is c = sym (c .before .before .to-date .ensures) ∙ c .found .given .1
 none-is : (c : tie.After-enum-told) → toDate (c .before .before .before .before .args .day) ≡ None
 none-is c = sym (c .before .before .to-date .ensures) ∙ c .enum-told .given .1
 
-to-date-requires : tie.Need-to-date-requires
-to-date-requires c κs = search needs
-
-enum-known-found : tie.Need-enum-known-found
-enum-known-found c = search needs
-
-cast-put-digits : tie.Need-cast-put-digits
-cast-put-digits c = search needs
-
-put-digits-requires : tie.Need-put-digits-requires
-put-digits-requires c κs = search needs
-
-add-put-digits : tie.Need-add-put-digits
-add-put-digits c = search needs
-
-cast-put-digits-2 : tie.Need-cast-put-digits-2
-cast-put-digits-2 c = search needs
-
-put-digits-requires-2 : tie.Need-put-digits-requires-2
-put-digits-requires-2 c κs = search needs
-
-add-put-digits-2 : tie.Need-add-put-digits-2
-add-put-digits-2 c = search needs
-
-cast-put-digits-3 : tie.Need-cast-put-digits-3
-cast-put-digits-3 c = search needs
-
-put-digits-requires-3 : tie.Need-put-digits-requires-3
-put-digits-requires-3 c κs = search needs
-
-enum-told : tie.Need-enum-told
-enum-told c = search needs
-
-put-digits-requires-4 : tie.Need-put-digits-requires-4
-put-digits-requires-4 c κs = search needs
-
-same-length : tie.Need-same-length
-same-length c = search needs
-
 returns : tie.Need-returns
-returns c = let date = c .before .before .before .before .before .before .before .before .before .before .before .before .before .before .before .before .found .given .0 .0 in
-    let text = c .before .before .before .before .before .before .before .before .before .before .before .before .before .before .before .before .before .before .before .before .args .out .now in
-    let at = c .before .before .before .before .before .before .before .before .before .before .before .before .before .before .before .before .before .before .before .before .args .at in
+returns c = let three : tie.After-put-digits3 = search in
+    let two : tie.After-put-digits2 = search in
+    let one : tie.After-put-digits = search in
+    let found : tie.After-found = search one in
+    let date = found .found .given .0 .0 in
+    let start = found .before .before .before .before in
+    let text = start .args .out .now in
+    let at = start .args .at in
     let year = digits 10 4 (date .year) in
     let month = digits 10 2 (date .month) in
-    let one = c .before .before .before .before .before .before .before .before .before .before .before .before .put-digits .ensures in
-    let two = written-on text at year month 4 (length-digits 10 4 (date .year)) one (c .before .before .before .before .before .before .before .put-digits2 .ensures) in
-    rw (date-is (c .before .before .before .before .before .before .before .before .before .before .before .before .before .before .before .before))
-    (written-on text at (year ++ month) (digits 10 2 (date .day)) 6 (length-behind year month 4 2 (length-digits 10 4 (date .year)) (length-digits 10 2 (date .month))) two (c .before .before .put-digits3 .ensures))
-
-same-length-2 : tie.Need-same-length-2
-same-length-2 c = search needs
-
-returns-2 : tie.Need-returns-2
-returns-2 c = rw (none-is (c .before .before .before .before)) (c .before .before .put-digits4 .ensures)
+    let year-long = length-digits 10 4 (date .year) in
+    let both-long = length-behind year month 4 2 year-long (length-digits 10 2 (date .month)) in
+    let both = written-on text at year month 4 year-long (one .put-digits .ensures) (two .put-digits2 .ensures) in
+    rw (date-is found) (written-on text at (year ++ month) (digits 10 2 (date .day)) 6 both-long both (three .put-digits3 .ensures))
 
 pub put-date-spec : {M : Type 1} → statement M
 put-date-spec =
     tie.close
     (tie.spec
-    to-date-requires
-    enum-known-found
-    cast-put-digits
-    put-digits-requires
-    add-put-digits
-    cast-put-digits-2
-    put-digits-requires-2
-    add-put-digits-2
-    cast-put-digits-3
-    put-digits-requires-3
-    enum-told
-    put-digits-requires-4
-    same-length
+    (λ c κs. search needs)  -- to-date-requires
+    (λ c. search needs)  -- enum-known-found
+    (λ c. search needs)  -- cast-put-digits
+    (λ c κs. search needs)  -- put-digits-requires
+    (λ c. search needs)  -- add-put-digits
+    (λ c. search needs)  -- cast-put-digits-2
+    (λ c κs. search needs)  -- put-digits-requires-2
+    (λ c. search needs)  -- add-put-digits-2
+    (λ c. search needs)  -- cast-put-digits-3
+    (λ c κs. search needs)  -- put-digits-requires-3
+    (λ c. search needs)  -- enum-told
+    (λ c κs. search needs)  -- put-digits-requires-4
+    (λ c. search needs)  -- same-length
     returns
-    same-length-2
-    returns-2)
+    (λ c. search needs)  -- same-length-2
+    (λ c. rw (none-is (c .before .before .before .before)) (c .before .before .put-digits4 .ensures)))  -- returns-2

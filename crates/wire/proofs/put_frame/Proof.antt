@@ -12,29 +12,35 @@ use mir.Val.{toZ, ofZ}
 use borrow.Author.Needs.{needs}
 use Rattle.account.specs.declared.Answer.{Answer}
 use Rattle.wire.specs.Digits.{written}
-use Rattle.wire.specs.Answers.{lineFeed, amountsBytes, answerOf, answerHead, shown, answerAmounts, answerFrame, answerLine, longestAnswer}
+use Rattle.wire.specs.Answers.{lineFeed, amountsBytes, answerOf, answerHead, shown, answerAmounts, answerFrame, answerLine}
+use Rattle.wire.specs.Answers.{longestAnswer}
 use Rattle.wire.proofs.Writing.{written-on, length-head, length-amounts}
 use Rattle.wire.proofs.put_frame.Statement.{statement}
 use Rattle.wire.proofs.put_frame.Tie as tie
 
 abbrev told : tie.Start → Answer
-told s = answerOf (s .args .number) (s .args .estimated) (s .args .count) (s .args .volumes .now) (s .args .net) (s .args .interest) (s .args .unpaid) (s .args .credit)
+told s =
+    let a = s .args in
+    answerOf (a .number) (a .estimated) (a .count) (a .volumes .now) (a .net) (a .interest) (a .unpaid) (a .credit)
 
 abbrev begun : tie.After-put-volumes → tie.Start
 begun c = c .before .before .before .before .before .before .before
 
 -- the place behind the volumes
-next-is : (c : tie.After-put-volumes) → c .put-volumes .result ≡ begun c .args .at + length (answerHead (told (begun c)) ++ shown (told (begun c)))
+next-is : (c : tie.After-put-volumes) →
+    c .put-volumes .result ≡ begun c .args .at + length (answerHead (told (begun c)) ++ shown (told (begun c)))
 next-is c =
     let answer = told (begun c) in
-    rw (length-append (answerHead answer) (shown answer), length-head answer) (c .put-volumes .ensures .1 .0 ∙ add-assoc (begun c .args .at) 12 (length (shown answer)))
+    rw (length-append (answerHead answer) (shown answer), length-head answer)
+    (c .put-volumes .ensures .1 .0 ∙ add-assoc (begun c .args .at) 12 (length (shown answer)))
 
 -- and the place behind the frame
 end-is : (c : tie.After-put-volumes) → c .put-volumes .result + 48 ≡ begun c .args .at + length (answerFrame (told (begun c)))
 end-is c =
     let answer = told (begun c) in
     let both = answerHead answer ++ shown answer in
-    let long : length (answerFrame answer) ≡ length both + 48 = length-append both (answerAmounts answer) ∙ ap (λ n. length both + n) (length-amounts answer) in
+    let long : length (answerFrame answer) ≡ length both + 48 =
+    length-append both (answerAmounts answer) ∙ ap (λ n. length both + n) (length-amounts answer) in
     omega (arith, next-is c, long)
 
 module _ (c : tie.After-slice-known4) where
@@ -47,7 +53,10 @@ module _ (c : tie.After-slice-known4) where
   abbrev start : tie.Start
   start = begun volumes
 
-  whole-line : set (amounts .put-amounts .last .0) (volumes .put-volumes .result + 48) 10 ≡ written (start .args .out .now) (start .args .at) (answerLine (told start))
+  abbrev out-last : List ℕ
+  out-last = set (amounts .put-amounts .last .0) (volumes .put-volumes .result + 48) 10
+
+  whole-line : out-last ≡ written (start .args .out .now) (start .args .at) (answerLine (told start))
   unfolding answerLine
   whole-line =
       let head : tie.After-put-head = volumes .before .before .before .before in
@@ -55,12 +64,16 @@ module _ (c : tie.After-slice-known4) where
       let text = start .args .out .now in
       let at = start .args .at in
       let both = answerHead answer ++ shown answer in
-      let two = written-on text at (answerHead answer) (shown answer) 12 (length-head answer) (head .put-head .ensures) (volumes .put-volumes .ensures .0) in
+      let two = written-on text at (answerHead answer) (shown answer) 12 (length-head answer) (head .put-head .ensures)
+      (volumes .put-volumes .ensures .0) in
       let a = start .args in
       let same-net : toZ w32 (ofZ w32 (a .net)) ≡ a .net = search needs in
-      let there = ap (λ (n : ℤ). written (volumes .put-volumes .last .0) (volumes .put-volumes .result) (amountsBytes n (a .interest) (a .unpaid) (a .credit))) same-net in
-      let behind-both = ap (λ n. written (volumes .put-volumes .last .0) n (answerAmounts answer)) (next-is volumes) in
-      let three = written-on text at both (answerAmounts answer) (length both) refl two (amounts .put-amounts .ensures ∙ there ∙ behind-both) in
+      let so-far = volumes .put-volumes .last .0 in
+      let next = volumes .put-volumes .result in
+      let there = ap (λ (n : ℤ). written so-far next (amountsBytes n (a .interest) (a .unpaid) (a .credit))) same-net in
+      let behind-both = ap (λ n. written so-far n (answerAmounts answer)) (next-is volumes) in
+      let put = amounts .put-amounts .ensures ∙ there ∙ behind-both in
+      let three = written-on text at both (answerAmounts answer) (length both) refl two put in
       written-on text at (answerFrame answer) (lineFeed ∷ []) (length (answerFrame answer)) refl three
       (ap (λ n. set (amounts .put-amounts .last .0) n 10) (end-is volumes))
 
@@ -71,7 +84,7 @@ module _ (c : tie.After-slice-known4) where
   most : volumes .put-volumes .result + 49 ≤ start .args .at + longestAnswer
   most = omega (arith, volumes .put-volumes .ensures .1 .1)
 
-  same : length (set (amounts .put-amounts .last .0) (volumes .put-volumes .result + 48) 10) ≡ length (start .args .out .now)
+  same : length out-last ≡ length (start .args .out .now)
   same = ap length whole-line ∙ length-sets (start .args .out .now) (start .args .at) (answerLine (told start))
 
 put-volumes-requires : tie.Need-put-volumes-requires

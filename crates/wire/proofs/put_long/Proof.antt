@@ -6,23 +6,22 @@ use borrow.Author.Needs.{needs}
 use Rattle.wire.proofs.put_long.Statement.{statement}
 use Rattle.wire.proofs.put_long.Tie as tie
 
-put-word-requires : tie.Need-put-word-requires
-put-word-requires c κs = search needs
-
-add-put-word : tie.Need-add-put-word
-add-put-word c = search needs
-
-put-word-requires-2 : tie.Need-put-word-requires-2
-put-word-requires-2 c κs = search needs
-
-same-length : tie.Need-same-length
-same-length c = search needs
-
 returns : tie.Need-returns
-returns c = let start = c .before .before .before .before .before .before .before .before .before in
-    let n = start .args .value in
-    rw (sixteen-digits n) (written-on (start .args .out .now) (start .args .at) (digits 16 8 (n / 4294967296)) (digits 16 8 n) 8 (length-digits 16 8 (n / 4294967296)) (c .before .before .before .before .before .before .put-word .ensures) (c .before .before .put-word2 .ensures))
+returns c = let start : tie.Start = search in
+    let one : tie.After-put-word = search in
+    let two : tie.After-put-word2 = search in
+    let a = start .args in
+    let high = digits 16 8 (a .value / 4294967296) in
+    let high-long = length-digits 16 8 (a .value / 4294967296) in
+    rw (sixteen-digits (a .value))
+    (written-on (a .out .now) (a .at) high (digits 16 8 (a .value)) 8 high-long (one .put-word .ensures) (two .put-word2 .ensures))
 
 pub put-long-spec : {M : Type 1} → statement M
 put-long-spec =
-    tie.close (tie.spec put-word-requires add-put-word put-word-requires-2 same-length returns)
+    tie.close
+    (tie.spec
+    (λ c κs. search needs)  -- put-word-requires
+    (λ c. search needs)  -- add-put-word
+    (λ c κs. search needs)  -- put-word-requires-2
+    (λ c. search needs)  -- same-length
+    returns)

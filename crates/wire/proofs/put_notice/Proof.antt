@@ -1,8 +1,8 @@
 use mathlib.Core.Path.{_≡_, refl, ap, _∙_}
-use mathlib.Core.List.{[], _∷_, _++_}
+use mathlib.Core.List.{List, [], _∷_, _++_}
 use Rattle.wire.specs.Digits.{bytes, written}
 use Rattle.wire.proofs.Writing.{written-on, length-digits, length-behind, length-date}
-use Prim.Native.Nat.{_+_}
+use Prim.Native.Nat.{ℕ, _+_}
 use lib.ListN.{length, set}
 use lib.Seq.{length-sets}
 use Rattle.calendar.specs.Conversions.{toDate}
@@ -11,73 +11,62 @@ use borrow.Author.Needs.{needs}
 use Rattle.wire.proofs.put_notice.Statement.{statement}
 use Rattle.wire.proofs.put_notice.Tie as tie
 
-whole-line : (c : tie.After-slice-known5) → set (c .before .before .put-digits2 .last .0) (c .before .before .before .before .before .before .before .before .before .before .before .before .before .before .before .before .before .before .args .at + 34) 10 ≡ written (c .before .before .before .before .before .before .before .before .before .before .before .before .before .before .before .before .before .before .args .out .now) (c .before .before .before .before .before .before .before .before .before .before .before .before .before .before .before .before .before .before .args .at) (noticeLine (c .before .before .before .before .before .before .before .before .before .before .before .before .before .before .before .before .before .before .args .item))
-unfolding noticeLine
-whole-line c = let item = c .before .before .before .before .before .before .before .before .before .before .before .before .before .before .before .before .before .before .args .item in
-    let text = c .before .before .before .before .before .before .before .before .before .before .before .before .before .before .before .before .before .before .args .out .now in
-    let at = c .before .before .before .before .before .before .before .before .before .before .before .before .before .before .before .before .before .before .args .at in
-    let kind = bytes 1 (kindNumber (item .kind)) in
-    let obligation = dateDigits (toDate (item .obligation)) in
-    let due = dateDigits (toDate (item .due)) in
-    let unpaid = bytes 8 (item .unpaid) in
-    let long-kind = length-digits 16 2 (kindNumber (item .kind)) in
-    let long-two = length-behind kind obligation 2 8 long-kind (length-date (toDate (item .obligation))) in
-    let long-three = length-behind (kind ++ obligation) due 10 8 long-two (length-date (toDate (item .due))) in
-    let one = rw (c .before .before .before .before .before .before .before .before .before .before .before .before .before .before .before .kind-number .ensures) at (c .before .before .before .before .before .before .before .before .before .before .before .before .before .before .put-digits .ensures) in
-    let two = written-on text at kind obligation 2 long-kind one (c .before .before .before .before .before .before .before .before .before .before .put-date .ensures) in
-    let three = written-on text at (kind ++ obligation) due 10 long-two two (c .before .before .before .before .before .before .put-date2 .ensures) in
-    let four = written-on text at (kind ++ obligation ++ due) unpaid 18 long-three three (c .before .before .put-digits2 .ensures) in
-    written-on text at (kind ++ obligation ++ due ++ unpaid) (10 ∷ []) 34 (length-behind (kind ++ obligation ++ due) unpaid 18 16 long-three (length-digits 16 16 (item .unpaid))) four refl
+module _ (c : tie.After-slice-known5) where
+  abbrev unpaid : tie.After-put-digits2
+  unpaid = c .before .before
 
-kind-number-requires : tie.Need-kind-number-requires
-kind-number-requires c κs = search needs
+  abbrev due : tie.After-put-date2
+  due = unpaid .before .before .before .before
 
-put-digits-requires : tie.Need-put-digits-requires
-put-digits-requires c κs = search needs
+  abbrev obligation : tie.After-put-date
+  obligation = due .before .before .before .before
 
-add-put-date : tie.Need-add-put-date
-add-put-date c = search needs
+  abbrev kind : tie.After-put-digits
+  kind = obligation .before .before .before .before
 
-put-date-requires : tie.Need-put-date-requires
-put-date-requires c κs = search needs
+  abbrev start : tie.Start
+  start = kind .before .before .before .before
 
-add-put-date-2 : tie.Need-add-put-date-2
-add-put-date-2 c = search needs
+  abbrev out-last : List ℕ
+  out-last = set (unpaid .put-digits2 .last .0) (start .args .at + 34) 10
 
-put-date-requires-2 : tie.Need-put-date-requires-2
-put-date-requires-2 c κs = search needs
+  whole-line : out-last ≡ written (start .args .out .now) (start .args .at) (noticeLine (start .args .item))
+  unfolding noticeLine
+  whole-line =
+      let item = start .args .item in
+      let text = start .args .out .now in
+      let at = start .args .at in
+      let kind-text = bytes 1 (kindNumber (item .kind)) in
+      let obligation-text = dateDigits (toDate (item .obligation)) in
+      let due-text = dateDigits (toDate (item .due)) in
+      let unpaid-text = bytes 8 (item .unpaid) in
+      let two-text = kind-text ++ obligation-text in
+      let kind-long = length-digits 16 2 (kindNumber (item .kind)) in
+      let two-long = length-behind kind-text obligation-text 2 8 kind-long (length-date (toDate (item .obligation))) in
+      let three-long = length-behind two-text due-text 10 8 two-long (length-date (toDate (item .due))) in
+      let all-long = length-behind (two-text ++ due-text) unpaid-text 18 16 three-long (length-digits 16 16 (item .unpaid)) in
+      let one = kind .put-digits .ensures ∙ ap (λ n. written text at (bytes 1 n)) (kind .before .kind-number .ensures) in
+      let two = written-on text at kind-text obligation-text 2 kind-long one (obligation .put-date .ensures) in
+      let three = written-on text at two-text due-text 10 two-long two (due .put-date2 .ensures) in
+      let four = written-on text at (two-text ++ due-text) unpaid-text 18 three-long three (unpaid .put-digits2 .ensures) in
+      written-on text at (two-text ++ due-text ++ unpaid-text) (10 ∷ []) 34 all-long four refl
 
-add-put-digits : tie.Need-add-put-digits
-add-put-digits c = search needs
-
-put-digits-requires-2 : tie.Need-put-digits-requires-2
-put-digits-requires-2 c κs = search needs
-
-add-out : tie.Need-add-out
-add-out c = search needs
-
-slice-write-out : tie.Need-slice-write-out
-slice-write-out c = search needs
-
-same-length : tie.Need-same-length
-same-length c = ap length (whole-line c) ∙ length-sets (c .before .before .before .before .before .before .before .before .before .before .before .before .before .before .before .before .before .before .args .out .now) (c .before .before .before .before .before .before .before .before .before .before .before .before .before .before .before .before .before .before .args .at) (noticeLine (c .before .before .before .before .before .before .before .before .before .before .before .before .before .before .before .before .before .before .args .item))
-
-returns : tie.Need-returns
-returns c = whole-line c
+  same : length out-last ≡ length (start .args .out .now)
+  same = ap length whole-line ∙ length-sets (start .args .out .now) (start .args .at) (noticeLine (start .args .item))
 
 pub put-notice-spec : {M : Type 1} → statement M
 put-notice-spec =
     tie.close
     (tie.spec
-    kind-number-requires
-    put-digits-requires
-    add-put-date
-    put-date-requires
-    add-put-date-2
-    put-date-requires-2
-    add-put-digits
-    put-digits-requires-2
-    add-out
-    slice-write-out
-    same-length
-    returns)
+    (λ c κs. search needs)  -- kind-number-requires
+    (λ c κs. search needs)  -- put-digits-requires
+    (λ c. search needs)  -- add-put-date
+    (λ c κs. search needs)  -- put-date-requires
+    (λ c. search needs)  -- add-put-date-2
+    (λ c κs. search needs)  -- put-date-requires-2
+    (λ c. search needs)  -- add-put-digits
+    (λ c κs. search needs)  -- put-digits-requires-2
+    (λ c. search needs)  -- add-out
+    (λ c. search needs)  -- slice-write-out
+    same  -- same-length
+    whole-line)  -- returns

@@ -1,6 +1,7 @@
+-- The number, 58 characters 0 and LF, one behind the other.
 use mathlib.Core.Path.{_≡_, refl, ap, _∙_}
-use mathlib.Core.List.{[], _∷_, _++_}
-use Prim.Native.Nat.{_+_}
+use mathlib.Core.List.{List, [], _∷_, _++_}
+use Prim.Native.Nat.{ℕ, _+_}
 use native.Mathlib.Omega.{arith}
 use lib.ListN.{length, set, replicate}
 use lib.Seq.{length-sets}
@@ -12,48 +13,39 @@ use borrow.Author.Needs.{needs}
 use Rattle.wire.proofs.put_refusal.Statement.{statement}
 use Rattle.wire.proofs.put_refusal.Tie as tie
 
-whole-line : (c : tie.After-slice-known3) → set (c .before .before .put-zeros .last .0) (c .before .before .before .before .before .before .before .before .before .args .at + 60) 10 ≡ written (c .before .before .before .before .before .before .before .before .before .args .out .now) (c .before .before .before .before .before .before .before .before .before .args .at) (answerLine (refusal (c .before .before .before .before .before .before .before .before .before .args .number)))
-whole-line c =
-    let start = c .before .before .before .before .before .before .before .before .before in
-    let text = start .args .out .now in
-    let at = start .args .at in
-    let number = digits 16 2 (start .args .number) in
-    let two = written-on text at number (replicate 58 48) 2 (length-digits 16 2 (start .args .number)) (c .before .before .before .before .before .before .put-byte .ensures) (c .before .before .put-zeros .ensures) in
-    rw (refusal-line (start .args .number)) (written-on text at (number ++ replicate 58 48) (10 ∷ []) 60 (length-behind number (replicate 58 48) 2 58 (length-digits 16 2 (start .args .number)) refl) two refl)
+module _ (c : tie.After-slice-known3) where
+  abbrev zeros : tie.After-put-zeros
+  zeros = c .before .before
 
-put-byte-requires : tie.Need-put-byte-requires
-put-byte-requires c κs = search needs
+  abbrev start : tie.Start
+  start = zeros .before .before .before .before .before .before .before
 
-add-put-zeros : tie.Need-add-put-zeros
-add-put-zeros c = search needs
+  abbrev line : List ℕ
+  line = answerLine (refusal (start .args .number))
 
-put-zeros-requires : tie.Need-put-zeros-requires
-put-zeros-requires c κs = search needs
+  whole-line : set (zeros .put-zeros .last .0) (start .args .at + 60) 10 ≡ written (start .args .out .now) (start .args .at) line
+  whole-line =
+      let put : tie.After-put-byte = search in
+      let text = start .args .out .now in
+      let at = start .args .at in
+      let number = digits 16 2 (start .args .number) in
+      let number-long = length-digits 16 2 (start .args .number) in
+      let both-long = length-behind number (replicate 58 48) 2 58 number-long refl in
+      let both = written-on text at number (replicate 58 48) 2 number-long (put .put-byte .ensures) (zeros .put-zeros .ensures) in
+      rw (refusal-line (start .args .number)) (written-on text at (number ++ replicate 58 48) (10 ∷ []) 60 both-long both refl)
 
-add-out : tie.Need-add-out
-add-out c = search needs
-
-slice-write-out : tie.Need-slice-write-out
-slice-write-out c = search needs
-
-add-result : tie.Need-add-result
-add-result c = search needs
-
-same-length : tie.Need-same-length
-same-length c = ap length (whole-line c) ∙ length-sets (c .before .before .before .before .before .before .before .before .before .args .out .now) (c .before .before .before .before .before .before .before .before .before .args .at) (answerLine (refusal (c .before .before .before .before .before .before .before .before .before .args .number)))
-
-returns : tie.Need-returns
-returns c = (whole-line c, (rw (refusal-length (c .before .before .before .before .before .before .before .before .before .args .number)) refl, omega arith))
+  same : length (set (zeros .put-zeros .last .0) (start .args .at + 60) 10) ≡ length (start .args .out .now)
+  same = ap length whole-line ∙ length-sets (start .args .out .now) (start .args .at) line
 
 pub put-refusal-spec : {M : Type 1} → statement M
 put-refusal-spec =
     tie.close
     (tie.spec
-    put-byte-requires
-    add-put-zeros
-    put-zeros-requires
-    add-out
-    slice-write-out
-    add-result
-    same-length
-    returns)
+    (λ c κs. search needs)  -- put-byte-requires
+    (λ c. search needs)  -- add-put-zeros
+    (λ c κs. search needs)  -- put-zeros-requires
+    (λ c. search needs)  -- add-out
+    (λ c. search needs)  -- slice-write-out
+    (λ c. search needs)  -- add-result
+    same  -- same-length
+    (λ c. (whole-line c, (rw (refusal-length (start c .args .number)) refl, omega arith))))  -- returns

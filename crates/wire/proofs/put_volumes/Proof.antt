@@ -32,24 +32,30 @@ lent l = start l .args .volumes .now
 long : (l : Walk tie.At-loop) → length (lent l) ≡ 7
 long l = start l .pre .0
 
+size-of : (l : Walk tie.At-loop) (i : ℕ) → i ≤ 7 → length (volumesBytes (take i (lent l))) ≡ 8 * i
+size-of l i h = joined-taken (bytes 4) 8 (length-digits 16 8) (lent l) i (omega (arith, long l))
+
 returns : Walk tie.Need-returns
 returns c = let l : Walk tie.At-loop = search in
     let all : take (start l .args .count) (lent l) ≡ take 7 (lent l) = take-past (start l .args .count) 7 (lent l) (long l) (omega arith) in
     let seven : l .loop .i ≡ 7 = omega arith in
-    rw (all, joined-taken (bytes 4) 8 (length-digits 16 8) (lent l) 7 (omega (arith, long l))) (rw seven at (l .loop .inv .3), (refl, omega arith))
+    rw (all, size-of l 7 (omega arith)) (rw seven at (l .loop .inv .3), (refl, omega arith))
 
 loop-again : Walk tie.Need-loop-again
 loop-again c = let l : Walk tie.At-loop = search in
     let put : Walk tie.After-put-volume = search in
     let i = l .loop .i in
-    let before = joined-taken (bytes 4) 8 (length-digits 16 8) (lent l) i (omega (arith, long l)) in
-    let more = written-on (start l .args .out .now) (start l .args .at) (volumesBytes (take i (lent l))) (bytes 4 (getD (lent l) i 0)) (8 * i) before (l .loop .inv .3) (put .put-volume .ensures) in
+    let so-far = volumesBytes (take i (lent l)) in
+    let volume = bytes 4 (getD (lent l) i 0) in
+    let a = start l .args in
+    let size = size-of l i (omega arith) in
+    let more = written-on (a .out .now) (a .at) so-far volume (8 * i) size (l .loop .inv .3) (put .put-volume .ensures) in
     (omega arith, omega arith, search needs, rw (joined-next (bytes 4) (lent l) i 0 (omega (arith, long l))) more)
 
 returns-2 : Walk tie.Need-returns-2
 returns-2 c = let l : Walk tie.At-loop = search in
     let done : l .loop .i ≡ start l .args .count = omega arith in
-    rw (← done, joined-taken (bytes 4) 8 (length-digits 16 8) (lent l) (l .loop .i) (omega (arith, long l))) (l .loop .inv .3, (refl, omega arith))
+    rw (← done, size-of l (l .loop .i) (omega arith)) (l .loop .inv .3, (refl, omega arith))
 
 pub put-volumes-spec : {M : Type 1} → statement M
 put-volumes-spec =

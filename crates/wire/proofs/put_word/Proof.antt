@@ -8,65 +8,41 @@ use borrow.Author.Needs.{needs}
 use Rattle.wire.proofs.put_word.Statement.{statement}
 use Rattle.wire.proofs.put_word.Tie as tie
 
-put-zeros-requires : tie.Need-put-zeros-requires
-put-zeros-requires c κs = search needs
-
-same-length : tie.Need-same-length
-same-length c = search needs
-
 returns : tie.Need-returns
 returns c = c .before .before .put-zeros .ensures ∙ rw (c .before .before .before .before .if1 .taken, digits-zero) refl
 
-put-byte-requires : tie.Need-put-byte-requires
-put-byte-requires c κs = search needs
-
-add-put-byte : tie.Need-add-put-byte
-add-put-byte c = search needs
-
-put-byte-requires-2 : tie.Need-put-byte-requires-2
-put-byte-requires-2 c κs = search needs
-
-add-put-byte-2 : tie.Need-add-put-byte-2
-add-put-byte-2 c = search needs
-
-put-byte-requires-3 : tie.Need-put-byte-requires-3
-put-byte-requires-3 c κs = search needs
-
-add-put-byte-3 : tie.Need-add-put-byte-3
-add-put-byte-3 c = search needs
-
-put-byte-requires-4 : tie.Need-put-byte-requires-4
-put-byte-requires-4 c κs = search needs
-
-same-length-2 : tie.Need-same-length-2
-same-length-2 c = search needs
-
 returns-2 : tie.Need-returns-2
-returns-2 c = let start = c .before .before .before .before .before .before .before .before .before .before .before .before .before .before .before .before .before .before in
+returns-2 c = let one : tie.After-put-byte = search in
+    let two : tie.After-put-byte2 = search in
+    let three : tie.After-put-byte3 = search in
+    let four : tie.After-put-byte4 = search in
+    let start : tie.Start = search in
     let text = start .args .out .now in
     let at = start .args .at in
     let n = start .args .value in
     let first = digits 16 2 (n / 16777216) in
     let second = digits 16 2 (n / 65536) in
     let third = digits 16 2 (n / 256) in
-    let two-long = length-behind first second 2 2 (length-digits 16 2 (n / 16777216)) (length-digits 16 2 (n / 65536)) in
-    let two = written-on text at first second 2 (length-digits 16 2 (n / 16777216)) (c .before .before .before .before .before .before .before .before .before .before .before .before .before .before .put-byte .ensures) (c .before .before .before .before .before .before .before .before .before .before .put-byte2 .ensures) in
-    let three = written-on text at (first ++ second) third 4 two-long two (c .before .before .before .before .before .before .put-byte3 .ensures) in
-    rw (eight-digits n) (written-on text at (first ++ second ++ third) (digits 16 2 n) 6 (length-behind (first ++ second) third 4 2 two-long (length-digits 16 2 (n / 256))) three (c .before .before .put-byte4 .ensures))
+    let first-long = length-digits 16 2 (n / 16777216) in
+    let two-long = length-behind first second 2 2 first-long (length-digits 16 2 (n / 65536)) in
+    let three-long = length-behind (first ++ second) third 4 2 two-long (length-digits 16 2 (n / 256)) in
+    let both = written-on text at first second 2 first-long (one .put-byte .ensures) (two .put-byte2 .ensures) in
+    let more = written-on text at (first ++ second) third 4 two-long both (three .put-byte3 .ensures) in
+    rw (eight-digits n) (written-on text at (first ++ second ++ third) (digits 16 2 n) 6 three-long more (four .put-byte4 .ensures))
 
 pub put-word-spec : {M : Type 1} → statement M
 put-word-spec =
     tie.close
     (tie.spec
-    put-zeros-requires
-    same-length
+    (λ c κs. search needs)  -- put-zeros-requires
+    (λ c. search needs)  -- same-length
     returns
-    put-byte-requires
-    add-put-byte
-    put-byte-requires-2
-    add-put-byte-2
-    put-byte-requires-3
-    add-put-byte-3
-    put-byte-requires-4
-    same-length-2
+    (λ c κs. search needs)  -- put-byte-requires
+    (λ c. search needs)  -- add-put-byte
+    (λ c κs. search needs)  -- put-byte-requires-2
+    (λ c. search needs)  -- add-put-byte-2
+    (λ c κs. search needs)  -- put-byte-requires-3
+    (λ c. search needs)  -- add-put-byte-3
+    (λ c κs. search needs)  -- put-byte-requires-4
+    (λ c. search needs)  -- same-length-2
     returns-2)

@@ -14,32 +14,11 @@ Inv-loop table₀ i₀ table i = (i ≤ 256) × (length table ≡ 256) × ((c : 
 abbrev μ-loop : tie.MeasureT-loop
 μ-loop table₀ i₀ table i = 256 - i
 
-loop-holds : tie.Need-loop-holds Inv-loop μ-loop
-loop-holds c = (omega arith, refl, λ k h. absurd (omega arith))
-
-cast-value-or : tie.Need-cast-value-or Inv-loop μ-loop
-cast-value-or c = search needs
-
-value-or-requires : tie.Need-value-or-requires Inv-loop μ-loop
-value-or-requires c κs = search needs
-
-mul-table : tie.Need-mul-table Inv-loop μ-loop
-mul-table c = search needs
-
-array-write-table : tie.Need-array-write-table Inv-loop μ-loop
-array-write-table c = search needs
-
-add-i : tie.Need-add-i Inv-loop μ-loop
-add-i c = omega arith
-
-loop-less : tie.Need-loop-less Inv-loop μ-loop
-loop-less c = omega arith
-
 loop-again : tie.Need-loop-again Inv-loop μ-loop
-loop-again c = (
+loop-again c = let l = c .before .before .loop in (
   omega arith,
-  length-set (c .before .before .loop .table) (c .before .before .loop .i) (c .value-or .result) ∙ c .before .before .loop .inv .1,
-  rw (c .value-or .ensures) (shows-next (c .before .before .loop .table) (c .before .before .loop .i) (omega arith) (c .before .before .loop .inv .2)),
+  length-set (l .table) (l .i) (c .value-or .result) ∙ l .inv .1,
+  rw (c .value-or .ensures) (shows-next (l .table) (l .i) (omega arith) (l .inv .2)),
 )
 
 returns : tie.Need-returns Inv-loop μ-loop
@@ -52,12 +31,12 @@ value-table-spec =
     (tie.spec
     Inv-loop
     μ-loop
-    loop-holds
-    cast-value-or
-    value-or-requires
-    mul-table
-    array-write-table
-    add-i
-    loop-less
+    (λ c. (omega arith, refl, λ k h. absurd (omega arith)))  -- loop-holds
+    (λ c. search needs)  -- cast-value-or
+    (λ c κs. search needs)  -- value-or-requires
+    (λ c. search needs)  -- mul-table
+    (λ c. search needs)  -- array-write-table
+    (λ c. omega arith)  -- add-i
+    (λ c. omega arith)  -- loop-less
     loop-again
     returns)

@@ -48,8 +48,19 @@ returns-10 c = let k : c .before .before .args .kind ≡ 97 = omega arith in
     c .sized10 .ensures ∙ sym (stopped-form (c .before .before .args .kind) k .is)
 
 returns-11 : tie.Need-returns-11
-returns-11 c = sym (no-form (c .before .args .kind)
-    (⊎-elim (c .match .rest .0 .0 .0 .0 .0 .0 .0 .0 .0 .1) (⊎-elim (c .match .rest .0 .0 .0 .0 .0 .0 .0 .0 .1) (⊎-elim (c .match .rest .0 .0 .0 .0 .0 .0 .0 .1) (⊎-elim (c .match .rest .0 .0 .0 .0 .0 .0 .1) (⊎-elim (c .match .rest .0 .0 .0 .0 .0 .1) (⊎-elim (c .match .rest .0 .0 .0 .0 .1) (⊎-elim (c .match .rest .0 .0 .0 .1) (⊎-elim (c .match .rest .0 .0 .1) (⊎-elim (c .match .rest .0 .1) (⊎-elim (c .match .rest .1) (λ n. n))))))))))))
+returns-11 c =
+    sym (no-form (c .before .args .kind)
+    (⊎-elim (c .match .rest .0 .0 .0 .0 .0 .0 .0 .0 .0 .1)
+    (⊎-elim (c .match .rest .0 .0 .0 .0 .0 .0 .0 .0 .1)
+    (⊎-elim (c .match .rest .0 .0 .0 .0 .0 .0 .0 .1)
+    (⊎-elim (c .match .rest .0 .0 .0 .0 .0 .0 .1)
+    (⊎-elim (c .match .rest .0 .0 .0 .0 .0 .1)
+    (⊎-elim (c .match .rest .0 .0 .0 .0 .1)
+    (⊎-elim (c .match .rest .0 .0 .0 .1)
+    (⊎-elim (c .match .rest .0 .0 .1)
+    (⊎-elim (c .match .rest .0 .1)
+    (⊎-elim (c .match .rest .1)
+    (λ n. n))))))))))))
 
 pub widths-of-spec : {M : Type 1} → statement M
 widths-of-spec =
