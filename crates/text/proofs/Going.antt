@@ -23,7 +23,6 @@ use Rattle.wire.specs.Answers.{lineFeed, answerLine, longestAnswer}
 use Rattle.wire.proofs.Frames.{too-long, parsed-others}
 use Rattle.wire.specs.Numbers.{Lies, callOf, parsedBy, ReadAt, ReadIn}
 use Rattle.wire.specs.declared.Fields.{Fields}
-use Rattle.lines.proofs.Same.{same-parsed}
 use Rattle.text.specs.declared.State.{State}
 use Rattle.text.specs.Output.{parsedOutcome, lineOutcome}
 use Rattle.text.specs.Feeding.{blankLine, between, lineOf, kept, Feeding, nothing, behind, feeding}
@@ -139,7 +138,7 @@ pub frame-taken : (input : List ℕ) (at room : ℕ) (a : Account) (call : Call)
     → Leads at (at + width + 1) (fedFrom input at room (between a)) (fedBehind input (at + width + 1) room (parsedOutcome a (Frame call)))
 frame-taken input at room a call width l r =
     let line : List ℕ = take width (drop at input) in
-    let frame : parsed line ≡ Frame call = sym (same-parsed line) ∙ l .frame in
+    let frame : parsed line ≡ Frame call = l .frame in
     let long : length line ≡ width = length-take-le width (drop at input) (rw (length-drop at input) (omega (arith, l .within))) in
     let digits = line-fed room a line (drop (at + width + 1) input) (frame-digits line call frame) (omega (arith, frame-short line call frame)) r in
     let is = ap (feeding room (between a)) (lying-split input at call width l) ∙ digits in

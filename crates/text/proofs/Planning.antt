@@ -26,9 +26,9 @@ parsed-frame f n = rw (ne-eqb (f .width) 0 n) refl
 
 -- A call planned on the head alone, as the line's.
 pub planned-line : (h : Head) (estimates : Estimates) (f : Fields) → (f .width ≡ 0 → ⊥) → (reads (callOf f) ≡ true → standing estimates ≡ [])
-    → {before after : List ℕ} {r : Plan} → r ≡ planned h [] (callOf f) → after ≡ filledWith (plannedVolumes h [] (callOf f)) before
+    → (before : List ℕ) {after : List ℕ} {r : Plan} → r ≡ planned h [] (callOf f) → after ≡ filledWith (plannedVolumes h [] (callOf f)) before
     → PlanOf h estimates (parsedBy f) before r after
-planned-line h estimates f n alone {before} {after} {r} is shown =
+planned-line h estimates f n alone before {after} {r} is shown =
     subst (λ p. PlanOf h estimates p before r after) (sym (parsed-frame f n))
     (
       is ∙ plan-alone h (standing estimates) (callOf f) alone,
@@ -37,9 +37,9 @@ planned-line h estimates f n alone {before} {after} {r} is shown =
 
 -- A call planned over the estimates, as the line's.
 pub planned-over : (h : Head) (estimates : Estimates) (f : Fields) → LooksBack f
-    → {before after : List ℕ} {r : Plan} → r ≡ planned h (standing estimates) (callOf f) → after ≡ filledWith (plannedVolumes h (standing estimates) (callOf f)) before
+    → (before : List ℕ) {after : List ℕ} {r : Plan} → r ≡ planned h (standing estimates) (callOf f) → after ≡ filledWith (plannedVolumes h (standing estimates) (callOf f)) before
     → PlanOf h estimates (parsedBy f) before r after
-planned-over h estimates f looks {before} {after} {r} is shown =
+planned-over h estimates f looks before {after} {r} is shown =
     subst (λ p. PlanOf h estimates p before r after) (sym (looks .frame)) (is, shown)
 
 -- What is answered.

@@ -173,7 +173,6 @@ fn feed_lines(
 {
     let values = wire::value_table();
     let pairs = wire::pair_table();
-    let mut volumes = [0u32; 7];
     let mut head = head;
     let mut estimates = estimates;
     let mut queue = queue;
@@ -188,6 +187,7 @@ fn feed_lines(
             break;
         }
         let fields = next.fields;
+        let mut volumes = [0u32; 7];
         let plan = if looks_back(head.standing, fields) {
             plan::plans::plan_over(head, estimates, wire::call_of(fields), &mut volumes)
         } else {
@@ -196,7 +196,7 @@ fn feed_lines(
         let entered = enter_plan(unpaid, amount, label, queue, plan);
         queue = entered.queue;
         head = head_after(entered.number, plan, head);
-        written = put_line(entered, plan, &volumes, out, written, &pairs);
+        written = put_line(entered, plan, volumes, out, written, &pairs);
         if head.standing != estimates.count {
             let change = plan.change;
             estimates = account::calls::changed(change, estimates);
@@ -285,17 +285,16 @@ fn head_after(number: u8, plan: Plan, head: Head) -> Head
 fn put_line(
     entered: Entered,
     plan: Plan,
-    volumes: &[u32; 7],
+    volumes: [u32; 7],
     out: &mut [u8],
     at: usize,
     pairs: &[u8; 512],
 ) -> usize
-    requires { ⌜ length (now volumes) ≡ 7 ⌝ }
-    requires { ⌜ (entered .number ≡ 0 → plan .count ≤ 7) ⌝ }
+    requires { ⌜ (entered .number ≡ 0 → length (take (plan .count) volumes) ≡ plan .count) ⌝ }
     requires { ⌜ at + longestAnswer ≤ length (now out) ⌝ }
     requires { ⌜ PairTable (now pairs) ⌝ }
-    ensures { λ _. ⌜ now (out .exit) ≡ written (now (out .entry)) at (answerLine (answerOf entered plan (now (volumes .entry)))) ⌝ }
-    ensures { λ r. ⌜ r ≡ at + length (answerLine (answerOf entered plan (now (volumes .entry)))) ⌝ }
+    ensures { λ _. ⌜ now (out .exit) ≡ written (now (out .entry)) at (answerLine (answerOf entered plan volumes)) ⌝ }
+    ensures { λ r. ⌜ r ≡ at + length (answerLine (answerOf entered plan volumes)) ⌝ }
     ensures { λ r. ⌜ r ≤ at + longestAnswer ⌝ }
 {
     let number = entered.number;
@@ -305,7 +304,7 @@ fn put_line(
     let queue = entered.queue;
     wire::put_accepted(
         plan.estimated,
-        volumes,
+        &volumes,
         plan.count,
         plan.net,
         entered.interest,

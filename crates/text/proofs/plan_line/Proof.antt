@@ -23,7 +23,7 @@ returns-2 c = λ estimates of.
     let a = s .args in
     let is = made .call-of .ensures in
     planned-line (a .head) estimates (a .fields) (e .if1 .left)
-    (λ reading. ap (λ n. take n (estimates .periods)) (of ∙ s .pre .1 .1 .0 (e .if1 .left) reading))
+    (λ reading. ap (λ n. take n (estimates .periods)) (of ∙ s .pre .1 .1 .0 (e .if1 .left) reading)) (a .volumes .now)
     (c .plan-call .ensures .0 ∙ ap (planned (a .head) []) is)
     (c .plan-call .ensures .1 ∙ ap (λ call. filledWith (plannedVolumes (a .head) [] call) (a .volumes .now)) is)
 

@@ -1,6 +1,7 @@
 use mathlib.Core.Path.{_≡_, sym, ap, _∙_}
 use Prim.Native.Nat.{_+_}
-use lib.ListN.{length, take}
+use native.Mathlib.Omega.{arith}
+use lib.ListN.{length, take, length-take}
 use mir.Val.{toZ, ofZ}
 use mir.Syntax.{w32}
 use Rattle.wire.specs.Answers.{acceptance, answerLine}
@@ -12,6 +13,10 @@ use Rattle.text.proofs.put_line.Statement.{statement}
 use Rattle.text.proofs.put_line.Tie as tie
 use Rattle.text.proofs.put_line.Reads as reads
 use Rattle.text.proofs.put_line.Lts as lts
+
+-- seven places for volumes
+seven : (s : tie.Start) → length (s .args .t3) ≡ 7
+seven s = search needs
 
 -- a net is an i32
 net-whole : (s : tie.Start) → toZ w32 (ofZ w32 (s .args .plan .net)) ≡ s .args .plan .net
@@ -31,7 +36,7 @@ returns c =
     let s : tie.Start = search in
     let t : tie.Then1 = search in
     let p : tie.After-put-refusal = search in
-    let is = sym (answer-refused (s .args .entered) (s .args .plan) (s .args .volumes .now) (t .if1 .taken)) in
+    let is = sym (answer-refused (s .args .entered) (s .args .plan) (s .args .t3) (t .if1 .taken)) in
     (p .put-refusal .ensures .0 ∙ ap (λ (x : Answer). written (s .args .out .now) (s .args .at) (answerLine x)) is,
     (p .put-refusal .ensures .1 .0 ∙ ap (λ (x : Answer). s .args .at + length (answerLine x)) is, p .put-refusal .ensures .1 .1))
 
@@ -40,7 +45,8 @@ put-accepted-requires : tie.Need-put-accepted-requires
 put-accepted-requires c κs =
     let s : tie.Start = search in
     let t : tie.Else1 = search in
-    (s .pre .0, (s .pre .1 .0 (t .if1 .left), (s .pre .1 .1 .0, s .pre .1 .1 .1)))
+    let count-is = s .pre .0 (t .if1 .left) in
+    (seven s, (omega (arith, seven s, count-is, length-take (s .args .plan .count) (s .args .t3)), (s .pre .1 .0, s .pre .1 .1)))
 
 -- src/lib.rt:285:1
 same-length-2 : tie.Need-same-length-2
@@ -54,8 +60,8 @@ returns-2 c =
     let p : tie.After-put-accepted = search in
     let p0 = s .args .plan in
     let e = s .args .entered in
-    let front = take (p0 .count) (s .args .volumes .now) in
-    let is = ap (λ z. acceptance (p0 .estimated) front z (e .interest) (e .queue .owed) (e .queue .credit)) (net-whole s) ∙ sym (answer-accepted e p0 (s .args .volumes .now) (t .if1 .left)) in
+    let front = take (p0 .count) (s .args .t3) in
+    let is = ap (λ z. acceptance (p0 .estimated) front z (e .interest) (e .queue .owed) (e .queue .credit)) (net-whole s) ∙ sym (answer-accepted e p0 (s .args .t3) (t .if1 .left)) in
     (p .put-accepted .ensures .0 ∙ ap (λ (x : Answer). written (s .args .out .now) (s .args .at) (answerLine x)) is,
     (p .put-accepted .ensures .1 .0 ∙ ap (λ (x : Answer). s .args .at + length (answerLine x)) is, p .put-accepted .ensures .1 .1))
 

@@ -13,7 +13,7 @@ no-frame-requires c κs = search needs
 returns : tie.Need-returns
 returns c =
     let s : tie.Start = search in
-    λ i. record { ended = false; fields = c .no-frame .ensures .0 i; taken = s .args .taken; length = s .args .kept }
+    λ i. record { ended = false; fields = c .no-frame .ensures i; taken = s .args .taken; length = s .args .kept }
 
 pub waiting-spec : {M : Type 1} → statement M
 waiting-spec = tie.close (tie.spec no-frame-requires returns)
