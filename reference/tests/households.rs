@@ -4,7 +4,7 @@ use std::ops::Range;
 
 use reference::account::Account;
 use reference::calls::{take, Answer, Call, What};
-use reference::fast::{bill_into, LONGEST_ANSWER};
+use reference::fast::{self, LONGEST_ANSWER};
 use reference::frames;
 use reference::households::{household, METER_MONTHS, MONTHS};
 use reference::rule::Rule;
@@ -154,8 +154,8 @@ fn interest_revisions_and_credit_occur() {
     assert!(count(&files, |step| step.reads() && step.before.ledger.credit > 0) > 1_000);
 }
 
-#[test]
-fn the_fast_build_is_equal_in_a_buffer() {
+/// Bills files, whole and cut, into a buffer that is used again.
+fn is_equal_in_a_buffer(bill_into: fn(&[u8], &mut [u8]) -> usize) {
     let mut room = Vec::new();
     for seed in 0..FILES {
         let input = household(seed);
@@ -165,4 +165,15 @@ fn the_fast_build_is_equal_in_a_buffer() {
             assert!(room[..size] == reference::bill(input, Rule::Right));
         }
     }
+}
+
+#[test]
+fn the_fast_build_is_equal() {
+    is_equal_in_a_buffer(fast::bill_into);
+}
+
+#[test]
+#[cfg(feature = "linked")]
+fn the_library_is_equal() {
+    is_equal_in_a_buffer(reference::linked::bill_into);
 }

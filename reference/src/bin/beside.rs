@@ -2,7 +2,7 @@
 
 use std::hint::black_box;
 use std::io::{self, Error};
-use std::path::{Path, PathBuf};
+use std::path::PathBuf;
 use std::process::ExitCode;
 use std::time::{Duration, Instant};
 use std::{env, fs};
@@ -11,10 +11,10 @@ use reference::{fast, frames, linked};
 
 const USAGE: &str = "usage: beside [--rounds R] [--times T] PATH...
        beside --only library|tuned [--times T] PATH...
-  Nanoseconds of a pass over all files, best and median of R rounds (30) in
-  which both sides take turns, once both have given the same bytes; or one
-  pass of one side, for a profiler.
-  PATH       a file, or a folder whose files are taken by their names
+  Nanoseconds of a pass over each path, best and median of R rounds (30) in
+  which paths and sides take turns, once both sides have given the same bytes;
+  or one pass of one side over all paths, for a profiler.
+  PATH       a file, or a folder: a pass over it takes all its files
   --times T  a pass works each file so many times (1), from an empty account";
 
 /// Bills an input into a buffer; gives the output's length.
@@ -51,33 +51,28 @@ fn side(name: &str) -> Option<Bill> {
 
 // ---- Files ----
 
-fn inputs(paths: &[PathBuf]) -> io::Result<Vec<Vec<u8>>> {
-    let mut files = Vec::new();
-    for path in paths {
-        files.extend(files_of(path)?);
-    }
-    files.iter().map(fs::read).collect()
-}
+/// The inputs of one path.
+type Inputs = Vec<Vec<u8>>;
 
-fn files_of(path: &Path) -> io::Result<Vec<PathBuf>> {
+fn inputs(path: &PathBuf) -> io::Result<Inputs> {
     if !path.is_dir() {
-        return Ok(vec![path.to_path_buf()]);
+        return Ok(vec![fs::read(path)?]);
     }
     let entries = fs::read_dir(path)?.map(|entry| entry.map(|entry| entry.path()));
     let mut files = entries.collect::<io::Result<Vec<_>>>()?;
     files.sort();
-    Ok(files)
+    files.iter().map(fs::read).collect()
 }
 
 /// Room for the longest output that any of the inputs could have.
-fn room_for(inputs: &[Vec<u8>]) -> Vec<u8> {
-    let longest = inputs.iter().map(Vec::len).max().unwrap_or(0);
+fn room_for(paths: &[Inputs]) -> Vec<u8> {
+    let longest = paths.iter().flatten().map(Vec::len).max().unwrap_or(0);
     vec![0; (longest + 1) * fast::LONGEST_ANSWER]
 }
 
 // ---- Passes ----
 
-fn pass(bill: Bill, inputs: &[Vec<u8>], times: usize, room: &mut [u8]) {
+fn pass(bill: Bill, inputs: &Inputs, times: usize, room: &mut [u8]) {
     for _ in 0..times {
         for input in inputs {
             black_box(bill(black_box(input), room));
@@ -86,50 +81,56 @@ fn pass(bill: Bill, inputs: &[Vec<u8>], times: usize, room: &mut [u8]) {
 }
 
 /// Both sides' outputs must be the same.
-fn check_equal(inputs: &[Vec<u8>]) -> io::Result<()> {
-    let mut rooms = SIDES.map(|_| room_for(inputs));
-    for (place, input) in inputs.iter().enumerate() {
+fn check_equal(paths: &[Inputs]) -> io::Result<()> {
+    let mut rooms = SIDES.map(|_| room_for(paths));
+    for input in paths.iter().flatten() {
         let [first, second] = [0, 1].map(|side| SIDES[side].1(input, &mut rooms[side]));
         if first > rooms[0].len() || rooms[0][..first] != rooms[1][..second] {
-            return Err(Error::other(format!("the outputs differ on input {place}")));
+            return Err(Error::other("the outputs differ"));
         }
     }
     Ok(())
 }
 
-/// The time of each round, shortest first, for each side.
-fn times(options: &Options, inputs: &[Vec<u8>]) -> [Vec<Duration>; 2] {
-    let mut room = room_for(inputs);
-    let mut found = [Vec::new(), Vec::new()];
+/// The time of each round for both sides, shortest first, by path.
+fn times(options: &Options, paths: &[Inputs]) -> Vec<[Vec<Duration>; 2]> {
+    let mut room = room_for(paths);
+    let mut found = vec![SIDES.map(|_| Vec::new()); paths.len()];
     for _ in 0..options.rounds {
-        for ((_, bill), found) in SIDES.iter().zip(&mut found) {
-            let start = Instant::now();
-            pass(*bill, inputs, options.times, &mut room);
-            found.push(start.elapsed());
+        for (inputs, found) in paths.iter().zip(&mut found) {
+            for ((_, bill), found) in SIDES.iter().zip(found) {
+                let start = Instant::now();
+                pass(*bill, inputs, options.times, &mut room);
+                found.push(start.elapsed());
+            }
         }
     }
-    found.iter_mut().for_each(|times| times.sort());
+    found.iter_mut().flatten().for_each(|times| times.sort());
     found
 }
 
-fn report(options: &Options, inputs: &[Vec<u8>]) {
-    let lines: usize = inputs.iter().map(|input| frames::lines(input).count()).sum();
-    let lines = lines * options.times;
-    println!("side\tlines\tbest\tmedian\tbest a line");
-    for ((name, _), times) in SIDES.iter().zip(times(options, inputs)) {
-        let [best, median] = [times[0], times[times.len() / 2]].map(|time| time.as_nanos());
-        println!("{name}\t{lines}\t{best}\t{median}\t{:.1}", best as f64 / lines as f64);
+fn report(options: &Options, paths: &[Inputs]) {
+    println!("path\tside\tlines\tbest\tmedian\tbest a line");
+    for ((path, inputs), found) in options.paths.iter().zip(paths).zip(times(options, paths)) {
+        let lines: usize = inputs.iter().map(|input| frames::lines(input).count()).sum();
+        let (path, lines) = (path.display(), lines * options.times);
+        for ((side, _), times) in SIDES.iter().zip(found) {
+            let [best, median] = [times[0], times[times.len() / 2]].map(|time| time.as_nanos());
+            let each = best as f64 / lines as f64;
+            println!("{path}\t{side}\t{lines}\t{best}\t{median}\t{each:.1}");
+        }
     }
 }
 
 fn run(options: &Options) -> io::Result<()> {
-    let inputs = inputs(&options.paths)?;
+    let paths = options.paths.iter().map(inputs).collect::<io::Result<Vec<_>>>()?;
     if let Some(bill) = options.only {
-        pass(bill, &inputs, options.times, &mut room_for(&inputs));
+        let mut room = room_for(&paths);
+        paths.iter().for_each(|inputs| pass(bill, inputs, options.times, &mut room));
         return Ok(());
     }
-    check_equal(&inputs)?;
-    report(options, &inputs);
+    check_equal(&paths)?;
+    report(options, &paths);
     Ok(())
 }
 
