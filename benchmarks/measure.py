@@ -5,6 +5,8 @@ import re
 import subprocess
 import time
 
+SHOWN = 0.01  # least share of a function in the profile
+
 
 def start(program, source):
     """Starts a program on a file with its output thrown away."""
@@ -39,11 +41,12 @@ def output(program, source):
         return subprocess.run([program], stdin=file, stdout=subprocess.PIPE, check=True).stdout
 
 
-def callgrind(program, source, out):
-    """Instructions of one run; the profile is in the file `out`."""
-    words = ["valgrind", "--tool=callgrind", f"--callgrind-out-file={out}", program]
+def callgrind(command, out, source=os.devnull, inside=None):
+    """Instructions of one run, or of one function and what it calls; the profile is in the file `out`."""
+    words = ["valgrind", "--tool=callgrind", f"--callgrind-out-file={out}"]
+    words += [f"--toggle-collect={inside}"] if inside else []
     with open(source, "rb") as file:
-        said = subprocess.run(words, stdin=file, stdout=subprocess.DEVNULL, stderr=subprocess.PIPE, check=True, text=True)
+        said = subprocess.run([*words, *command], stdin=file, stdout=subprocess.DEVNULL, stderr=subprocess.PIPE, check=True, text=True)
     return int(re.search(r"Collected : (\d+)", said.stderr).group(1))
 
 
@@ -72,9 +75,9 @@ def copies(out):
     return total
 
 
-def samples(program, source, out):
+def samples(command, out, source=os.devnull):
     """Share of the time of each function, or none where perf can't tell."""
-    record = ["perf", "record", "-q", "-e", "cpu-clock", "-F", "5000", "-o", out, program]
+    record = ["perf", "record", "-q", "-e", "cpu-clock", "-F", "5000", "-o", out, *command]
     report = ["perf", "report", "--stdio", "-i", out, "--fields", "overhead,symbol"]
     try:
         with open(source, "rb") as file:
@@ -87,6 +90,11 @@ def samples(program, source, out):
         name = "the kernel" if where == "k" else plain(name)
         shares[name] = shares.get(name, 0) + float(share)
     return sorted(shares.items(), key=lambda pair: -pair[1])
+
+
+def shares(name, what, found):
+    """The functions of a program that have a share to show, as rows of the profile."""
+    return [(name, what, function, f"{share:.4f}") for function, share in found if share >= SHOWN]
 
 
 def plain(name):

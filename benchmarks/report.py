@@ -2,8 +2,11 @@
 
 import csv
 import re
+import textwrap
 
+WIDTH = 150  # of a paragraph
 PROGRAMS = ("bill", "fast_bill")
+SIDES = {"library": "library", "tuned": "tuned reference"}
 
 
 def read(file):
@@ -31,12 +34,66 @@ def costs(name, pair, form):
     return [name, *(format(cost, form) for cost in pair), f"{pair[1] / pair[0]:.2f}"]
 
 
-def results(rows):
-    """The main table, and what it was measured on."""
-    body = [long_speed(rows), *small_speeds(rows), start_cost(rows), *instruction_costs(rows)]
+# ---- Households' files, in one process ----
+
+
+def households_text(rows, shares):
+    parts = [households(rows), kinds(rows), profile(shares, SIDES)]
+    return "\n\n".join(parts)
+
+
+def households(rows):
+    """The main table, the lines that it is of, and what it was measured on."""
+    each = {measure: line_cost(rows, measure) for measure in ("", ", median", ", instructions", ", copies")}
+    in_ns = [[1e9 * seconds for seconds in each[measure]] for measure in ("", ", median")]
+    body = [
+        costs("ns a line, best", in_ns[0], ",.1f"),
+        costs("ns a line, median", in_ns[1], ",.1f"),
+        costs("instructions a line", each[", instructions"], ",.0f"),
+        ["calls of memcpy a line", *(f"{count:.2f}" for count in each[", copies"]), ""],
+    ]
+    header = ["", *SIDES.values(), "speed of the library, tuned reference = 1"]
     machine = next(row["value"] for row in rows if row["measure"] == "machine")
-    header = ["", *(f"`{name}`" for name in PROGRAMS), "speed of `bill`, `fast_bill` = 1"]
-    return table(header, body) + f"\n\nMeasured on {machine}."
+    below = textwrap.fill(f"{lines_text(rows)} Measured on {machine}.", WIDTH)
+    return f"{table(header, body)}\n\n{below}"
+
+
+def line_cost(rows, measure):
+    """What a line costs each side."""
+    found = values(rows, "households" + measure)
+    lines = sum(lines_by_kind(rows).values())
+    return [next(value for (program, _), value in found.items() if program == side) / lines for side in SIDES]
+
+
+def lines_by_kind(rows):
+    return {row["measure"][7:]: int(row["value"]) for row in rows if row["measure"].startswith("lines: ")}
+
+
+def lines_text(rows):
+    """How many lines the files have, and of what kinds."""
+    counts = lines_by_kind(rows)
+    files = next(row["size"] for row in rows if row["measure"] == "households")
+    total = sum(counts.values())
+    kinds = "; ".join(f"{kind} {100 * count / total:.2g} %" for kind, count in counts.items())
+    return f"{files} files, {total:,} lines: {kinds}."
+
+
+def speed(rows):
+    """The figures in a sentence."""
+    (library, tuned), counts = line_cost(rows, ""), line_cost(rows, ", instructions")
+    return textwrap.fill(
+        f"On households' files of twenty years the library takes {1e9 * library:,.0f} ns and {counts[0]:,.0f} instructions a line. Rust tuned for speed, in the same "
+        f"process and with the same bytes, takes {1e9 * tuned:,.0f} ns and {counts[1]:,.0f}: the library has {tuned / library:.2f} of its speed.",
+        WIDTH,
+    )
+
+
+# ---- The programs ----
+
+
+def results(rows):
+    body = [long_speed(rows), *small_speeds(rows), start_cost(rows), *instruction_costs(rows)]
+    return table(["", *(f"`{name}`" for name in PROGRAMS), "speed of `bill`, `fast_bill` = 1"], body)
 
 
 def long_speed(rows):
@@ -87,26 +144,31 @@ def growth(rows):
     return table(header, body)
 
 
+# ---- Kinds of lines and functions ----
+
+
 def kinds(rows):
-    names = dict.fromkeys(row["measure"] for row in rows if row["measure"].startswith("kind: "))
+    """Instructions and time of one line of each kind."""
+    names = dict.fromkeys(row["measure"][6:] for row in rows if row["measure"].startswith("kind: "))
     body = []
     for name in names:
-        pair = [next(value for (program, _), value in values(rows, name).items() if program == wanted) for wanted in PROGRAMS]
-        body.append([name[6:], *(f"{count:,.0f}" for count in pair)])
-    return table(["kind of line", *(f"`{name}`" for name in PROGRAMS)], body)
+        counts, times = ({side: value for (side, _), value in values(rows, measure + name).items()} for measure in ("kind: ", "time of kind: "))
+        body.append([name, *(f"{counts[side]:,.0f}" for side in SIDES), *(f"{times[side]:,.0f}" for side in SIDES)])
+    header = [f"{title}, {unit}" for unit in ("instructions", "ns") for title in SIDES.values()]
+    return table(["kind of line", *header], body)
 
 
-def profile(shares):
+def profile(shares, programs):
     """The functions of each program, with their share of time and instructions."""
     parts = []
-    for program in PROGRAMS:
+    for program, title in programs.items():
         found = {}
         for row in shares:
             if row["program"] == program:
                 found.setdefault(row["function"], {})[row["of"]] = float(row["share"])
         order = sorted(found, key=lambda name: -max(found[name].values()))
         body = [[f"`{name}`" if "(" not in name and " " not in name else name, *(percent(found[name].get(of)) for of in ("time", "instructions"))] for name in order]
-        parts.append(table([f"`{program}`", "time", "instructions"], body))
+        parts.append(table([title, "time", "instructions"], body))
     return "\n\n".join(parts)
 
 
@@ -123,11 +185,22 @@ def replace(text, marker, part):
     return found.sub(lambda _: f"{begin}\n{part}\n{end}", text)
 
 
-def write(results_file, profile_file, document):
-    rows, shares = read(results_file), read(profile_file)
+def write_parts(document, parts):
     text = document.read_text()
-    text = replace(text, "results", results(rows))
-    text = replace(text, "growth", growth(rows))
-    text = replace(text, "kinds", kinds(rows))
-    text = replace(text, "profile", profile(shares))
+    for marker, part in parts.items():
+        text = replace(text, marker, part)
     document.write_text(text)
+
+
+def write(results_file, profile_file, root):
+    rows, shares = read(results_file), read(profile_file)
+    parts = {
+        "households": households(rows),
+        "kinds": kinds(rows),
+        "functions": profile(shares, SIDES),
+        "results": results(rows),
+        "growth": growth(rows),
+        "profile": profile(shares, {name: f"`{name}`" for name in PROGRAMS}),
+    }
+    write_parts(root / "docs/BENCHMARKS.md", parts)
+    write_parts(root / "README.md", {"speed": speed(rows)})

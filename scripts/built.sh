@@ -49,6 +49,12 @@ use_library() {
     export BRECCIANEST_LIB_DIR
 }
 
+# in_reference COMMAND: cargo on the reference with the library linked, after use_library.
+linked=$PWD/reference/target/linked
+in_reference() {
+    (cd reference && cargo "$1" --quiet --release --offline --features linked --target-dir "$linked")
+}
+
 use_programs() {
     if [ -z "${BILL:-}" ] || [ -z "${NOTICE:-}" ]; then
         if stale target/bin/bill || stale target/bin/notice; then run_rt check bill notice; fi

@@ -9,6 +9,7 @@ pub mod check;
 pub mod fast;
 pub mod frames;
 pub mod generator;
+pub mod households;
 pub mod ledger;
 #[cfg(feature = "linked")]
 pub mod linked;

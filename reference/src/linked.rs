@@ -20,6 +20,16 @@ extern "C" {
 
 type Function = unsafe extern "C" fn(*const u8, usize, *mut u8, usize) -> usize;
 
+/// Bills a whole input into a buffer; gives the output's length.
+pub fn bill_into(input: &[u8], output: &mut [u8]) -> usize {
+    call(breccianest_bill, input, output)
+}
+
+fn call(function: Function, input: &[u8], output: &mut [u8]) -> usize {
+    // Both buffers live through the call and have the lengths given.
+    unsafe { function(input.as_ptr(), input.len(), output.as_mut_ptr(), output.len()) }
+}
+
 #[derive(Default)]
 pub struct Linked;
 
@@ -37,8 +47,7 @@ impl Other for Linked {
 fn fill(function: Function, input: &[u8], out: &mut Vec<u8>) {
     out.resize(4_096 + 4 * input.len(), 0);
     loop {
-        // Both buffers live through the call and have the lengths given.
-        let whole = unsafe { function(input.as_ptr(), input.len(), out.as_mut_ptr(), out.len()) };
+        let whole = call(function, input, out);
         if whole <= out.len() {
             out.truncate(whole);
             return;

@@ -5,12 +5,13 @@ use std::io::{self, Write};
 use std::path::Path;
 use std::process::ExitCode;
 
-use reference::{benchmarks, generator};
+use reference::{benchmarks, generator, households};
 
 const USAGE: &str =
-    "usage: lives --long N [--seed S]            one life of N lines, to standard output
-       lives --small N --dir D [--seed S]  N files of about twenty lines
-       lives --any N --dir D [--seed S]    the first N lives that compare uses";
+    "usage: lives --long N [--seed S]                 one life of N lines, to standard output
+       lives --households N --dir D [--seed S]  N files of twenty years
+       lives --small N --dir D [--seed S]       N files of about twenty lines
+       lives --any N --dir D [--seed S]         the first N lives that compare uses";
 
 /// The value after an option.
 fn value(words: &[String], name: &str) -> Option<String> {
@@ -40,6 +41,10 @@ fn run(words: &[String]) -> Option<io::Result<()>> {
         return Some(write_long(lines, seed));
     }
     let folder = value(words, "--dir")?;
+    if let Some(count) = number(words, "--households") {
+        let household = |index| households::household(generator::seed_of(seed, index));
+        return Some(write_files(count, &folder, household));
+    }
     if let Some(count) = number(words, "--small") {
         let small = |index| benchmarks::small_life(generator::seed_of(seed, index));
         return Some(write_files(count, &folder, small));
