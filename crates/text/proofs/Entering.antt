@@ -8,6 +8,7 @@ use lib.Dec.{eqb}
 use lib.ListN.{length, take, drop, length-append, length-replicate}
 use lib.Seq.{take-append-seam}
 use borrow.Author.Tests.{eq-eqb, ne-eqb, eqb-true, eqb-false}
+use Rattle.lists.specs.Pad.{pad}
 use Rattle.lists.proofs.Pad.{length-take-most}
 use Rattle.meter.specs.declared.Estimates.{Estimates}
 use Rattle.meter.specs.Sharing.{standing}
@@ -15,10 +16,10 @@ use Rattle.ledger.specs.declared.Entered.{Entered}
 use Rattle.ledger.specs.declared.Item.{Item}
 use Rattle.ledger.specs.declared.Queue.{Queue}
 use Rattle.ledger.specs.Limits.{capacity, mostEnd}
-use Rattle.ledger.specs.Posting.{Standing, stored}
+use Rattle.ledger.specs.Posting.{Standing, stored, blank}
 use Rattle.ledger.specs.Entries.{asked, numberOf, interestPosted, EntryBounds, Within}
 use Rattle.ledger.specs.Numbers.{lying, Lies, Fit}
-use Rattle.ledger.proofs.Queues.{part-count}
+use Rattle.ledger.proofs.Queues.{part-count, Spread, spread-stands, spread-fits, gathered-is}
 use Rattle.plan.specs.declared.Call.{Call}
 use Rattle.plan.specs.declared.Head.{Head}
 use Rattle.plan.specs.declared.Plan.{Plan}
@@ -38,7 +39,7 @@ use Rattle.account.specs.Outcomes.{accepted, declined, outcome}
 use Rattle.account.specs.Whole.{whole}
 use Rattle.account.specs.Works.{accountOf}
 use Rattle.account.proofs.Concluding.{outcome-declined}
-use Rattle.account.proofs.Ready.{head-bounds, misses-most, estimates-within, whole-lying}
+use Rattle.account.proofs.Ready.{head-bounds, count-most, whole-within, misses-most, estimates-within, whole-lying}
 use Rattle.account.proofs.Working.{next-asked}
 use Rattle.account.proofs.Carrying.{kept, made, Goes, goes, outcome-quiet, outcome-asked, outcome-refused}
 use Rattle.wire.specs.Answers.{acceptance}
@@ -46,9 +47,9 @@ use Rattle.wire.specs.declared.Parsed.{Parsed}
 use Rattle.wire.specs.declared.Parsed.the-variants.{Frame, NotAFrame}
 use Rattle.text.specs.Output.{parsedOutcome}
 use Rattle.text.specs.Reached.{Reached}
-use Rattle.text.specs.Working.{accountIn, Lain, PlanOf, unasked, Enters, headAfter, answerOf}
+use Rattle.text.specs.Working.{accountIn, Lain, PlanOf, unasked, Enters, headAfter, answerOf, queueIn, ledgerOf}
 use Rattle.text.proofs.Planning.{answer-refused, answer-accepted}
-use Rattle.text.proofs.Reached.{reached-whole, reached-estimates}
+use Rattle.text.proofs.Reached.{reached-whole, reached-tidy, reached-estimates}
 
 -- What is known of the parts of a reached account.
 module _ {items : List Item} {q : Queue} {h : Head} {estimates : Estimates} (l : Lain items q h estimates) where
@@ -189,8 +190,8 @@ module _ {items after : List Item} {q : Queue} {h : Head} {estimates : Estimates
           let z : numberOf (asked entry s) ≡ 0 = ap (λ (x : Plan). numberOf (asked (x .entry) s)) (sym passed) ∙ sym (done .number-is) ∙ zero in
           let interest = done .interest-is zero ∙ ap (λ (x : Plan). interestPosted (x .entry) s) passed in
           let is =
-              outcome-asked h estimates s call first fit (lain-whole l) (lain-within l) (sym asks-is ∙ asks) z ∙
-              ap (λ m. accepted (made h estimates s call first fit (asked entry s) m)) (sym interest)
+          outcome-asked h estimates s call first fit (lain-whole l) (lain-within l) (sym asks-is ∙ asks) z ∙
+          ap (λ m. accepted (made h estimates s call first fit (asked entry s) m)) (sym interest)
           in
           let stands = done .stands ∙ next-asked (p .entry) s (sym (done .number-is) ∙ zero) ∙ ap (λ (x : Plan). asked (x .entry) s) passed in
           accepted-comes zero (done .lies) (done .room)
@@ -291,3 +292,31 @@ module _ {after : List Item} {h : Head} {estimates : Estimates} {p : Plan} {r : 
         count-is = ap (λ (e : Estimates). e .count) estimates-are ∙ c .counted ∙ sym (ap (λ (x : Head). x .standing) head-is);
         reached = rw account-turned reached;
       }
+
+-- The parts of an account whose items were spread.
+module _ (a : Account) (reached : Reached a) (items : List Item) (w : Spread (a .ledger) items) where
+  abbrev is-whole : whole a ≡ true
+  is-whole = reached-whole a reached
+
+  pub account-spread : accountIn items (queueIn (a .ledger)) (headOf a) (a .estimates) ≡ a
+  account-spread =
+      let stands = spread-stands w (queueIn (a .ledger) .owed) in
+      ap (λ x. accountOf (headOf a) (a .estimates) (stored x)) stands ∙ ap (accountOf (headOf a) (a .estimates)) (sym (reached-tidy a reached))
+
+  pub lain-spread : Lain items (queueIn (a .ledger)) (headOf a) (a .estimates)
+  lain-spread =
+      record {
+        lies = spread-fits w refl (whole-within a is-whole) .lies;
+        room = omega (arith, count-most a is-whole);
+        count-is = refl;
+        reached = rw account-spread reached;
+      }
+
+-- And of one whose items are gathered.
+module _ {items : List Item} {q : Queue} {h : Head} {estimates : Estimates} (l : Lain items q h estimates) where
+  pub lain-few : q .count ≤ capacity
+  lain-few = omega (arith, part-count (l .lies), lain-within l .count-most)
+
+  pub account-gathered : (gathered : List Item) → gathered ≡ pad capacity blank (take (q .count) (drop (q .front) items))
+      → accountOf h estimates (ledgerOf q gathered) ≡ accountIn items q h estimates
+  account-gathered gathered e = ap (λ xs. accountOf h estimates (ledgerOf q xs)) e ∙ ap (accountOf h estimates) (gathered-is (l .lies) lain-few)

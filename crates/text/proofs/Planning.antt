@@ -29,8 +29,7 @@ pub planned-line : (h : Head) (estimates : Estimates) (f : Fields) → (f .width
     → (before : List ℕ) {after : List ℕ} {r : Plan} → r ≡ planned h [] (callOf f) → after ≡ filledWith (plannedVolumes h [] (callOf f)) before
     → PlanOf h estimates (parsedBy f) before r after
 planned-line h estimates f n alone before {after} {r} is shown =
-    subst (λ p. PlanOf h estimates p before r after) (sym (parsed-frame f n))
-    (
+    subst (λ p. PlanOf h estimates p before r after) (sym (parsed-frame f n)) (
       is ∙ plan-alone h (standing estimates) (callOf f) alone,
       shown ∙ ap (λ volumes. filledWith volumes before) (volumes-alone h (standing estimates) (callOf f) alone),
     )

@@ -26,13 +26,13 @@ use account::Account;
 use ledger::Entered;
 use ledger::Item;
 use ledger::Ledger;
+use ledger::Queue;
 use ledger::limits::CAPACITY;
 use ledger::limits::LANE_PLACES;
-use wire::Fields;
 use meter::Estimates;
 use plan::Head;
 use plan::Plan;
-use ledger::Queue;
+use wire::Fields;
 
 // What is kept between pieces: the account, and the first 31 characters of a line that has begun.
 pub struct State {

@@ -334,15 +334,17 @@ returns : Walk tie.Need-returns
 returns c =
     let l : Walk tie.At-loop = search in
     let e : Walk tie.After-loop = search in
-    let done = ahead-leads (l .loop .inv .ahead) (input-ended (input l) (l .loop .taken) (room l) (stands l) (e .loop-test .left)) in
-    (record {
-      fed = ahead-done _ (text l) (l .loop .taken) (l .loop .written) (stands l) (l .loop .out) done;
-      text-is = ahead-text _ (text l) (l .loop .taken) (l .loop .written) (stands l) (l .loop .out) done;
-      taken-most = l .loop .inv .within;
-      written-most = l .loop .inv .placed;
-      lain = l .loop .inv .lain;
-      clear = l .loop .inv .clear;
-    }, l .loop .inv .long)
+    let done = ahead-leads (l .loop .inv .ahead) (input-ended (input l) (l .loop .taken) (room l) (stands l) (e .loop-test .left)) in (
+      record {
+        fed = ahead-done _ (text l) (l .loop .taken) (l .loop .written) (stands l) (l .loop .out) done;
+        text-is = ahead-text _ (text l) (l .loop .taken) (l .loop .written) (stands l) (l .loop .out) done;
+        taken-most = l .loop .inv .within;
+        written-most = l .loop .inv .placed;
+        lain = l .loop .inv .lain;
+        clear = l .loop .inv .clear;
+      },
+      l .loop .inv .long,
+    )
 
 same-length-3 : Walk tie.Need-same-length-3
 same-length-3 c =
@@ -360,15 +362,17 @@ returns-2 c =
     let at = l n in
     let r = n .next-line .result in
     let s = state (account at) (r .length) (line n) in
-    let done = ahead-leads (at .loop .inv .ahead) (found n .waits (not-true (r .ended) (t .if1 .taken)) (account at)) in
-    (record {
-      fed = ahead-done _ (text at) (r .taken) (at .loop .written) s (at .loop .out) done;
-      text-is = ahead-text _ (text at) (r .taken) (at .loop .written) s (at .loop .out) done;
-      taken-most = found n .within;
-      written-most = at .loop .inv .placed;
-      lain = at .loop .inv .lain;
-      clear = found n .clear;
-    }, at .loop .inv .long)
+    let done = ahead-leads (at .loop .inv .ahead) (found n .waits (not-true (r .ended) (t .if1 .taken)) (account at)) in (
+      record {
+        fed = ahead-done _ (text at) (r .taken) (at .loop .written) s (at .loop .out) done;
+        text-is = ahead-text _ (text at) (r .taken) (at .loop .written) s (at .loop .out) done;
+        taken-most = found n .within;
+        written-most = at .loop .inv .placed;
+        lain = at .loop .inv .lain;
+        clear = found n .clear;
+      },
+      at .loop .inv .long,
+    )
 
 pub feed-lines-spec : {M : Type 1} → statement M
 feed-lines-spec =

@@ -31,9 +31,10 @@ returns-3 c =
     let s : tie.Start = search in
     let e : tie.Else2 = search in
     let made : tie.After-call-of = search in
-    let is = made .call-of .ensures in
-    (λ t. record { frame = parsed-frame (s .args .fields) (e .if2 .left); reading = subst (λ call. reads call ≡ true) is (c .over .ensures .0 t) },
-    λ f n reading. c .over .ensures .1 f (subst (λ call. reads call ≡ true) (sym is) reading))
+    let is = made .call-of .ensures in (
+      λ t. record { frame = parsed-frame (s .args .fields) (e .if2 .left); reading = subst (λ call. reads call ≡ true) is (c .over .ensures .0 t) },
+      λ f n reading. c .over .ensures .1 f (subst (λ call. reads call ≡ true) (sym is) reading),
+    )
 
 pub looks-back-spec : {M : Type 1} → statement M
 looks-back-spec = tie.close (tie.spec returns returns-2 call-of-requires over-requires returns-3)

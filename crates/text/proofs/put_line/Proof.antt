@@ -36,9 +36,10 @@ returns c =
     let s : tie.Start = search in
     let t : tie.Then1 = search in
     let p : tie.After-put-refusal = search in
-    let is = sym (answer-refused (s .args .entered) (s .args .plan) (s .args .t3) (t .if1 .taken)) in
-    (p .put-refusal .ensures .0 ∙ ap (λ (x : Answer). written (s .args .out .now) (s .args .at) (answerLine x)) is,
-    (p .put-refusal .ensures .1 .0 ∙ ap (λ (x : Answer). s .args .at + length (answerLine x)) is, p .put-refusal .ensures .1 .1))
+    let is = sym (answer-refused (s .args .entered) (s .args .plan) (s .args .t3) (t .if1 .taken)) in (
+      p .put-refusal .ensures .0 ∙ ap (λ (x : Answer). written (s .args .out .now) (s .args .at) (answerLine x)) is,
+      (p .put-refusal .ensures .1 .0 ∙ ap (λ (x : Answer). s .args .at + length (answerLine x)) is, p .put-refusal .ensures .1 .1),
+    )
 
 -- src/lib.rt:306:5
 put-accepted-requires : tie.Need-put-accepted-requires
@@ -61,9 +62,10 @@ returns-2 c =
     let p0 = s .args .plan in
     let e = s .args .entered in
     let front = take (p0 .count) (s .args .t3) in
-    let is = ap (λ z. acceptance (p0 .estimated) front z (e .interest) (e .queue .owed) (e .queue .credit)) (net-whole s) ∙ sym (answer-accepted e p0 (s .args .t3) (t .if1 .left)) in
-    (p .put-accepted .ensures .0 ∙ ap (λ (x : Answer). written (s .args .out .now) (s .args .at) (answerLine x)) is,
-    (p .put-accepted .ensures .1 .0 ∙ ap (λ (x : Answer). s .args .at + length (answerLine x)) is, p .put-accepted .ensures .1 .1))
+    let is = ap (λ z. acceptance (p0 .estimated) front z (e .interest) (e .queue .owed) (e .queue .credit)) (net-whole s) ∙ sym (answer-accepted e p0 (s .args .t3) (t .if1 .left)) in (
+      p .put-accepted .ensures .0 ∙ ap (λ (x : Answer). written (s .args .out .now) (s .args .at) (answerLine x)) is,
+      (p .put-accepted .ensures .1 .0 ∙ ap (λ (x : Answer). s .args .at + length (answerLine x)) is, p .put-accepted .ensures .1 .1),
+    )
 
 pub put-line-spec : {M : Type 1} → statement M
 put-line-spec =

@@ -12,9 +12,8 @@ use borrow.Author.Needs.{needs}
 use Rattle.wire.specs.Digits.{written}
 use Rattle.text.specs.declared.Fed.{Fed}
 use Rattle.text.specs.Feeding.{Feeding, feeding, finishing, fedOf}
-use Rattle.text.specs.Pieces.{linesIn}
-use Rattle.text.specs.Reached.{Reached}
-use Rattle.text.proofs.Reached.{reached-lines}
+use Rattle.text.specs.Reached.{Ready}
+use Rattle.text.proofs.Reached.{behind-ready}
 use Rattle.text.proofs.Feeding.{taken-some}
 use Rattle.text.proofs.Working.{shown, shown-fits, shown-part, made-within, Working, working-start, working-on, working-end}
 use Rattle.text.proofs.work_input.Statement.{statement}
@@ -78,10 +77,8 @@ module _ (l : At) where
   ahead-long : length ahead ≡ length input - l .loop .taken
   ahead-long = length-drop (l .loop .taken) input
 
-  reached : Reached (l .loop .state .account)
-  reached =
-      let lines = linesIn [] (take (l .loop .taken) input) in
-      reached-lines (l .loop .state .account) lines (l .loop .inv .working .stands .account-is)
+  ready : Ready (l .loop .state)
+  ready = behind-ready (record { seen = take (l .loop .taken) input; follows = l .loop .inv .working .stands })
 
 -- A piece is fed.
 module _ (c : FedAt) where
@@ -253,7 +250,7 @@ work-input-spec =
     (λ c. omega arith)  -- part-feed-start
     (λ c. omega arith)  -- part-feed-end
     (λ c. let a : At = search in sym (a .loop .inv .space-long))  -- slice-aggregate-feed
-    (λ c κs. let a : At = search in reached a)  -- feed-requires
+    (λ c κs. let a : At = search in ready a)  -- feed-requires
     array-share-prefix-space
     slice-aggregate-put-part
     (λ c κs. tt)  -- put-part-requires
@@ -262,7 +259,7 @@ work-input-spec =
     (λ c. let f : FedAt = search in omega (arith, taken-most f, taken-more f))  -- loop-less
     loop-again
     (λ c. let a : At = search in sym (a .loop .inv .space-long))  -- slice-aggregate-finish
-    (λ c κs. let a : At = search in reached a)  -- finish-requires
+    (λ c κs. let a : At = search in ready a)  -- finish-requires
     array-share-prefix-space-2
     slice-aggregate-put-part-2
     (λ c κs. tt)  -- put-part-requires-2
