@@ -3,7 +3,7 @@ ghost use mathlib.Core.Path.{_≡_};
 ghost use mathlib.Core.Bool.{true};
 ghost use mathlib.Core.List.{_++_};
 ghost use Rattle.text.specs.Pieces.{Follows, AtEnd, Behind, Finished};
-ghost use Rattle.text.specs.Reached.{Reached};
+ghost use Rattle.text.specs.Reached.{Ready};
 use libc::STDIN_FILENO;
 use libc::STDOUT_FILENO;
 use text::State;
@@ -29,7 +29,7 @@ fn print(text: &[u8], is_printing: bool) -> bool {
 // Feeds a block from its start to its end.
 fn feed_block(state: State, block: &[u8], is_printing: bool) -> Run
     requires { ⌜ Behind state ⌝ }
-    ensures { λ r. ⌜ Reached (r .state .account) ⌝ }
+    ensures { λ r. ⌜ Ready (r .state) ⌝ }
     ensures { λ r. ⌜ (r .sound ≡ true → (b : Behind state) → Follows (b .seen ++ now (block .entry)) (r .state)) ⌝ }
 {
     let mut state = state;

@@ -7,7 +7,7 @@ use borrow.Author.Needs.{needs}
 use Rattle.text.specs.declared.Fed.{Fed}
 use Rattle.text.specs.Pieces.{AtEnd}
 use Rattle.text.proofs.Pieces.{follows-end}
-use Rattle.text.proofs.Reached.{behind-reached}
+use Rattle.text.proofs.Reached.{behind-ready}
 use Rattle.driver.proofs.end_input.Statement.{statement}
 use Rattle.driver.proofs.end_input.Tie as tie
 
@@ -32,7 +32,7 @@ end-input-spec =
     tie.close
     (tie.spec
     (λ c. search needs)  -- slice-aggregate-finish
-    (λ c κs. let start : tie.Start = search in behind-reached (start .pre))  -- finish-requires
+    (λ c κs. let start : tie.Start = search in behind-ready (start .pre))  -- finish-requires
     (λ c. let ended : tie.After-finish = search in within ended)  -- array-share-prefix-out
     slice-aggregate-print
     (λ c κs. search needs)  -- print-requires

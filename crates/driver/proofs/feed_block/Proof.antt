@@ -7,9 +7,9 @@ use lib.ListN.{length, take, drop, length-drop}
 use Rattle.text.specs.declared.Fed.{Fed}
 use Rattle.text.specs.Feeding.{feeding}
 use Rattle.text.specs.Pieces.{Follows, Behind}
-use Rattle.text.specs.Reached.{Reached}
+use Rattle.text.specs.Reached.{Ready}
 use Rattle.text.proofs.Pieces.{follows-on}
-use Rattle.text.proofs.Reached.{behind-reached}
+use Rattle.text.proofs.Reached.{behind-ready}
 use Rattle.text.proofs.Feeding.{taken-some}
 use lib.Seq.{length-take-le, take-all, take-add}
 use borrow.Author.Needs.{needs}
@@ -17,7 +17,7 @@ use Rattle.driver.proofs.feed_block.Statement.{statement}
 use Rattle.driver.proofs.feed_block.Tie as tie
 
 abbrev Inv-loop : tie.InvT-loop
-Inv-loop block is-printing state₀ out₀ at₀ state out at = (at ≤ length block) × (length out ≡ 65536) × Reached (state .account) × ((b : Behind state₀) → Follows (b .seen ++ take at block) state)
+Inv-loop block is-printing state₀ out₀ at₀ state out at = (at ≤ length block) × (length out ≡ 65536) × Ready state × ((b : Behind state₀) → Follows (b .seen ++ take at block) state)
 
 abbrev μ-loop : tie.MeasureT-loop
 μ-loop block is-printing state₀ out₀ at₀ state out at = length block - at
@@ -58,7 +58,7 @@ large-buffer-requires : tie.Need-large-buffer-requires Inv-loop μ-loop
 large-buffer-requires c κs = tt
 
 loop-holds : tie.Need-loop-holds Inv-loop μ-loop
-loop-holds c = (omega arith, sym (c .large-buffer .ensures), behind-reached (c .before .before .pre), λ b. rw (append-nil (b .seen)) (b .follows))
+loop-holds c = (omega arith, sym (c .large-buffer .ensures), behind-ready (c .before .before .pre), λ b. rw (append-nil (b .seen)) (b .follows))
 
 sub-feed : tie.Need-sub-feed Inv-loop μ-loop
 sub-feed c = omega arith
