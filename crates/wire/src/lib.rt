@@ -337,6 +337,15 @@ pub fn call_of(fields: Fields) -> Call
     let second = fields.second as u32;
     let third = fields.third as u32;
     let short = fields.short as u8;
+    // the prices of 03 and 04, and those behind a reading
+    let alone = Fuel {
+        lng: first,
+        propane: second,
+    };
+    let behind = Fuel {
+        lng: second,
+        propane: third,
+    };
     match kind {
         49 => Call::Opening {
             day,
@@ -346,25 +355,10 @@ pub fn call_of(fields: Fields) -> Call
         50 => Call::Reading {
             day,
             reading: first,
-            fuel: Fuel {
-                lng: second,
-                propane: third,
-            },
+            fuel: behind,
         },
-        51 => Call::Missed {
-            day,
-            fuel: Fuel {
-                lng: first,
-                propane: second,
-            },
-        },
-        52 => Call::Absent {
-            day,
-            fuel: Fuel {
-                lng: first,
-                propane: second,
-            },
-        },
+        51 => Call::Missed { day, fuel: alone },
+        52 => Call::Absent { day, fuel: alone },
         53 => Call::Exchange {
             day,
             old: first,
@@ -374,10 +368,7 @@ pub fn call_of(fields: Fields) -> Call
         54 => Call::Disconnection {
             day,
             reading: first,
-            fuel: Fuel {
-                lng: second,
-                propane: third,
-            },
+            fuel: behind,
         },
         55 => Call::Reconnection {
             day,
@@ -387,10 +378,7 @@ pub fn call_of(fields: Fields) -> Call
         56 => Call::Cancellation {
             day,
             reading: first,
-            fuel: Fuel {
-                lng: second,
-                propane: third,
-            },
+            fuel: behind,
         },
         57 => Call::Payment { day, yen: first },
         _ => Call::StoppedCancellation { day },
