@@ -30,6 +30,7 @@ use ledger::Queue;
 use ledger::limits::CAPACITY;
 use ledger::limits::LANE_PLACES;
 use meter::Estimates;
+use meter::Meter;
 use plan::Head;
 use plan::Plan;
 use wire::Fields;
@@ -275,10 +276,27 @@ fn unasked(number: u8, queue: Queue) -> Entered
     }
 }
 
+// The head behind a line. Field by field, so that the compiler keeps the plan out of memory.
 fn head_after(number: u8, plan: Plan, head: Head) -> Head
     ensures { λ r. ⌜ r ≡ headAfter number plan head ⌝ }
 {
-    if number == 0 { plan.head } else { head }
+    if number != 0 {
+        return head;
+    }
+    let next = plan.head;
+    let status = next.status;
+    let meter = next.meter;
+    Head {
+        status,
+        latest: next.latest,
+        meter: Meter {
+            digits: meter.digits,
+            dial: meter.dial,
+            pool: meter.pool,
+            previous: meter.previous,
+        },
+        standing: next.standing,
+    }
 }
 
 // A line's answer, and the place behind it.
