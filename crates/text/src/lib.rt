@@ -2,7 +2,7 @@
 ghost use mathlib.Core.Path.{_≡_};
 ghost use mathlib.Core.Bool.{true, false, cond};
 ghost use Prim.Native.Nat.{_+_, _*_, min, _≤_, _<_};
-ghost use lib.ListN.{length, take};
+ghost use lib.ListN.{length, take, drop};
 ghost use Rattle.meter.specs.declared.Estimates.{Estimates};
 ghost use Rattle.ledger.specs.Limits.{mostEnd};
 ghost use Rattle.ledger.specs.Posting.{OpenBounds};
@@ -596,6 +596,32 @@ fn count_ends(input: &[u8]) -> usize
     let mut ends: usize = 0;
     let mut i: usize = 0;
     while i < input.len() {
+        let to = block_end(i, input.len());
+        ends += ends_between(input, i, to) as usize;
+        i = to;
+    }
+    ends
+}
+
+// The end of a block of at most 240 bytes that begins at a place.
+fn block_end(from: usize, end: usize) -> usize
+    requires { ⌜ from < end ⌝ }
+    ensures { λ r. ⌜ (from < r) × ((r ≤ end) × (r ≤ from + 240)) ⌝ }
+{
+    if end - from <= 240 { end } else { from + 240 }
+}
+
+// The line ends of a block. They fit a byte, and so the compiler counts sixteen at a time.
+fn ends_between(input: &[u8], from: usize, to: usize) -> u8
+    requires { ⌜ from ≤ to ⌝ }
+    requires { ⌜ to ≤ length (now input) ⌝ }
+    requires { ⌜ to ≤ from + 240 ⌝ }
+    ensures { λ r. ⌜ r + endsIn (drop to (now (input .entry))) ≡ endsIn (drop from (now (input .entry))) ⌝ }
+    ensures { λ r. ⌜ r + from ≤ to ⌝ }
+{
+    let mut ends: u8 = 0;
+    let mut i: usize = from;
+    while i < to {
         if input[i] == 10 {
             ends += 1;
         }

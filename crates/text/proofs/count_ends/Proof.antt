@@ -1,14 +1,11 @@
--- What was counted, with what is counted from `i` on, is what is counted of all.
-use mathlib.Core.Path.{_≡_, refl, sym, ap, _∙_}
-use mathlib.Core.Logic.{⊎-elim}
-use Prim.Native.Nat.{ℕ, suc, _+_, _-_, _≤_}
+-- What was counted, with what is counted from `i` on, is what is counted of all; a block moves both.
+use mathlib.Core.Path.{_≡_, ap, _∙_}
+use Prim.Native.Nat.{ℕ, _+_, _-_, _≤_}
 use native.Mathlib.Omega.{arith}
 use native.Mathlib.Nat.{zero-add}
-use native.Mathlib.Numerals.{add-one}
-use lib.ListN.{length, getD, drop, drop-of-length-le}
-use borrow.Author.Tests.{eq-eqb, ne-eqb}
+use lib.ListN.{length, drop, drop-of-length-le}
+use borrow.Author.Needs.{needs}
 use Rattle.text.specs.Lines.{endsIn}
-use Rattle.text.proofs.Room.{ends-next}
 use Rattle.text.proofs.count_ends.Statement.{statement}
 use Rattle.text.proofs.count_ends.Tie as tie
 
@@ -23,23 +20,14 @@ Walk T = T Inv-loop μ-loop
 
 loop-again : Walk tie.Need-loop-again
 loop-again c =
-    let s : Walk tie.Start = search in
     let l : Walk tie.At-loop = search in
-    let more : Walk tie.In-loop = search in
-    let input = s .args .input .now in
-    let i = l .loop .i in
-    let next = ends-next input i (more .loop-test .taken) in
-    let rest = endsIn (drop (suc i) input) in
+    let b : Walk tie.After-block-end = search in
+    let e : Walk tie.After-ends-between = search in
     let inv = l .loop .inv in
     record {
-      within = omega (arith, more .loop-test .taken);
-      few = ⊎-elim (λ w. omega (arith, w .1, inv .few)) (λ w. omega (arith, w .1, inv .few)) (c .if1 .came);
-      counted =
-          rw (add-one i)
-          (⊎-elim
-          (λ w. let one : endsIn (drop i input) ≡ suc rest = next ∙ rw (eq-eqb (getD input i 0) 10 (w .0 .taken)) refl in omega (arith, w .1, one, inv .counted))
-          (λ w. let none : endsIn (drop i input) ≡ rest = next ∙ rw (ne-eqb (getD input i 0) 10 (w .0 .left)) refl in omega (arith, w .1, none, inv .counted))
-          (c .if1 .came));
+      within = b .block-end .ensures .1 .0;
+      few = omega (arith, e .ends-between .ensures .1, inv .few);
+      counted = omega (arith, e .ends-between .ensures .0, inv .counted);
     }
 
 returns : Walk tie.Need-returns
@@ -55,10 +43,15 @@ count-ends-spec =
     (tie.spec
     Inv-loop
     μ-loop
-    (λ c. record { within = omega arith; few = omega arith; counted = zero-add (endsIn (c .args .input .now)) })  -- loop-holds
-    (λ c. omega arith)  -- shared-slice-read-if1
-    (λ c. let l : Walk tie.At-loop = search in omega (arith, l .loop .inv .few))  -- add-ends
-    (λ c. omega arith)  -- add-i
-    (λ c. omega arith)  -- loop-less
+    (λ c. record { within = omega arith; few = omega arith; counted = zero-add _ })  -- loop-holds
+    (λ c κs. let more : Walk tie.In-loop = search in more .loop-test .taken)  -- block-end-requires
+    (λ c κs. let b : Walk tie.After-block-end = search in let e = b .block-end .ensures in (omega (arith, e .0), (e .1 .0, e .1 .1)))  -- ends-between-requires
+    (λ c. search needs)  -- cast-ends
+    (λ c.
+      let l : Walk tie.At-loop = search in
+      let b : Walk tie.After-block-end = search in
+      let e : Walk tie.After-ends-between = search in
+      omega (arith, l .loop .inv .few, e .ends-between .ensures .1, b .block-end .ensures .1 .0))  -- add-ends
+    (λ c. let b : Walk tie.After-block-end = search in omega (arith, b .block-end .ensures .0, b .block-end .ensures .1 .0))  -- loop-less
     loop-again
     returns)

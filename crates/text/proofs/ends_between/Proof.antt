@@ -1,0 +1,73 @@
+-- What was counted, with what is counted from `i` on, is what is counted from the block's start on.
+use mathlib.Core.Path.{_≡_, refl, sym, ap, _∙_}
+use mathlib.Core.Logic.{⊎-elim}
+use Prim.Native.Nat.{ℕ, suc, _+_, _-_, _≤_, _<_}
+use native.Mathlib.Omega.{arith}
+use native.Mathlib.Nat.{zero-add}
+use native.Mathlib.Numerals.{add-one}
+use lib.ListN.{length, getD, drop}
+use borrow.Author.Tests.{eq-eqb, ne-eqb}
+use Rattle.text.specs.Lines.{endsIn}
+use Rattle.text.proofs.Room.{ends-next}
+use Rattle.text.proofs.ends_between.Statement.{statement}
+use Rattle.text.proofs.ends_between.Tie as tie
+
+abbrev Inv-loop : tie.InvT-loop
+Inv-loop input from to ends₀ i₀ ends i =
+    record { onward : from ≤ i; within : i ≤ to; few : ends + from ≤ i; counted : ends + endsIn (drop i input) ≡ endsIn (drop from input) }
+
+abbrev μ-loop : tie.MeasureT-loop
+μ-loop input from to ends₀ i₀ ends i = to - i
+
+abbrev Walk : (tie.InvT-loop → tie.MeasureT-loop → Type 0) → Type 0
+Walk T = T Inv-loop μ-loop
+
+loop-again : Walk tie.Need-loop-again
+loop-again c =
+    let s : Walk tie.Start = search in
+    let l : Walk tie.At-loop = search in
+    let more : Walk tie.In-loop = search in
+    let input = s .args .input .now in
+    let i = l .loop .i in
+    let inside : i < length input = omega (arith, more .loop-test .taken, s .pre .1 .0) in
+    let next = ends-next input i inside in
+    let rest = endsIn (drop (suc i) input) in
+    let inv = l .loop .inv in
+    record {
+      onward = omega (arith, inv .onward);
+      within = omega (arith, more .loop-test .taken);
+      few = ⊎-elim (λ w. omega (arith, w .1, inv .few)) (λ w. omega (arith, w .1, inv .few)) (c .if1 .came);
+      counted =
+          rw (add-one i)
+          (⊎-elim
+          (λ w. let one : endsIn (drop i input) ≡ suc rest = next ∙ rw (eq-eqb (getD input i 0) 10 (w .0 .taken)) refl in omega (arith, w .1, one, inv .counted))
+          (λ w. let none : endsIn (drop i input) ≡ rest = next ∙ rw (ne-eqb (getD input i 0) 10 (w .0 .left)) refl in omega (arith, w .1, none, inv .counted))
+          (c .if1 .came));
+    }
+
+returns : Walk tie.Need-returns
+returns c =
+    let s : Walk tie.Start = search in
+    let l : Walk tie.At-loop = search in
+    let e : Walk tie.After-loop = search in
+    let done : l .loop .i ≡ s .args .to = omega (arith, e .loop-test .left, l .loop .inv .within) in
+    let counted = ap (λ n. l .loop .ends + endsIn (drop n (s .args .input .now))) (sym done) ∙ l .loop .inv .counted in
+    (counted, omega (arith, l .loop .inv .few, l .loop .inv .within))
+
+pub ends-between-spec : {M : Type 1} → statement M
+ends-between-spec =
+    tie.close
+    (tie.spec
+    Inv-loop
+    μ-loop
+    (λ c. record { onward = omega arith; within = c .pre .0; few = omega arith; counted = zero-add _ })  -- loop-holds
+    (λ c. let s : Walk tie.Start = search in let more : Walk tie.In-loop = search in omega (arith, more .loop-test .taken, s .pre .1 .0))  -- shared-slice-read-if1
+    (λ c.
+      let s : Walk tie.Start = search in
+      let l : Walk tie.At-loop = search in
+      let more : Walk tie.In-loop = search in
+      omega (arith, l .loop .inv .few, more .loop-test .taken, s .pre .1 .1))  -- add-ends
+    (λ c. omega arith)  -- add-i
+    (λ c. omega arith)  -- loop-less
+    loop-again
+    returns)
