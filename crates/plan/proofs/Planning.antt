@@ -13,8 +13,8 @@ use Rattle.plan.specs.declared.Head.{Head}
 use Rattle.plan.specs.declared.Call.{Call}
 use Rattle.plan.specs.declared.Call.the-variants.{Opening, Reading, Missed, Absent, Exchange, Disconnection, Reconnection, Cancellation, Payment, StoppedCancellation}
 use Rattle.plan.specs.declared.Plan.{Plan}
-use Rattle.plan.specs.Refusals.{firstRefusal}
-use Rattle.plan.specs.Plans.{quietPlan, plannedAs, volumesAs, passedPlan, passedVolumes, planned, plannedVolumes, filledWith, reads}
+use Rattle.plan.specs.Refusals.{missRefusal, firstRefusal}
+use Rattle.plan.specs.Plans.{quietPlan, plannedAs, volumesAs, passedPlan, passedVolumes, planned, plannedVolumes, filledWith, missPlan, missedVolume, readPlanned, readVolumes, noReading, readingIn, noMiss, missIn, misses, reads}
 use Rattle.plan.proofs.Call.{the-type}
 
 -- The number that a refusal answered decides.
@@ -130,18 +130,78 @@ module _ (h : Head) (estimates : List Estimate) where
   unfolding plannedVolumes
   passed-volumes call e = rw (eq-eqb (firstRefusal h call) 0 e) refl
 
--- The arm of all calls that read no meter.
-abbrev others : List ℕ
-others = 0 ∷ 2 ∷ 3 ∷ 4 ∷ 6 ∷ 8 ∷ 9 ∷ []
+-- The planned readings and misses are the planned calls.
+module _ (h : Head) (estimates : List Estimate) where
+  pub reading-planned : (call : Call) → reads call ≡ true
+      → (readPlanned h estimates (readingIn call) ≡ planned h estimates call) × (readVolumes h estimates (readingIn call) ≡ plannedVolumes h estimates call)
+  unfolding firstRefusal planned plannedVolumes passedPlan passedVolumes
+  reading-planned (Opening day reading digits) e = absurd (false≢true e)
+  reading-planned (Reading day reading fuel) e = (refl, refl)
+  reading-planned (Missed day fuel) e = absurd (false≢true e)
+  reading-planned (Absent day fuel) e = absurd (false≢true e)
+  reading-planned (Exchange day old new digits) e = absurd (false≢true e)
+  reading-planned (Disconnection day reading fuel) e = (refl, refl)
+  reading-planned (Reconnection day reading digits) e = absurd (false≢true e)
+  reading-planned (Cancellation day reading fuel) e = (refl, refl)
+  reading-planned (Payment day yen) e = absurd (false≢true e)
+  reading-planned (StoppedCancellation day) e = absurd (false≢true e)
 
-pub no-reading : (call : Call) → OneOf (0 ∷ 2 ∷ 3 ∷ 4 ∷ 6 ∷ 8 ∷ 9 ∷ []) (tagOf the-type call) → reads call ≡ false
-no-reading (Opening day reading digits) other = refl
-no-reading (Reading day reading fuel) other = absurd (miss others 1 tt other)
-no-reading (Missed day fuel) other = refl
-no-reading (Absent day fuel) other = refl
-no-reading (Exchange day old new digits) other = refl
-no-reading (Disconnection day reading fuel) other = absurd (miss others 5 tt other)
-no-reading (Reconnection day reading digits) other = refl
-no-reading (Cancellation day reading fuel) other = absurd (miss others 7 tt other)
-no-reading (Payment day yen) other = refl
-no-reading (StoppedCancellation day) other = refl
+  pub miss-planned : (call : Call) → misses call ≡ true → let m = missIn call in
+      plannedAs (missRefusal h (m .day) (m .fuel)) (missPlan h (m .day) (m .fuel) (m .absent) (missedVolume h (m .absent))) h ≡ planned h estimates call
+  unfolding firstRefusal planned passedPlan
+  miss-planned (Opening day reading digits) e = absurd (false≢true e)
+  miss-planned (Reading day reading fuel) e = absurd (false≢true e)
+  miss-planned (Missed day fuel) e = refl
+  miss-planned (Absent day fuel) e = refl
+  miss-planned (Exchange day old new digits) e = absurd (false≢true e)
+  miss-planned (Disconnection day reading fuel) e = absurd (false≢true e)
+  miss-planned (Reconnection day reading digits) e = absurd (false≢true e)
+  miss-planned (Cancellation day reading fuel) e = absurd (false≢true e)
+  miss-planned (Payment day yen) e = absurd (false≢true e)
+  miss-planned (StoppedCancellation day) e = absurd (false≢true e)
+
+-- The last arm of a match: what the calls are that come there.
+abbrev unread : List ℕ
+unread = 0 ∷ 2 ∷ 3 ∷ 4 ∷ 6 ∷ 8 ∷ 9 ∷ []
+
+pub no-reading : (call : Call) → OneOf (0 ∷ 2 ∷ 3 ∷ 4 ∷ 6 ∷ 8 ∷ 9 ∷ []) (tagOf the-type call) → (reads call ≡ false) × (readingIn call ≡ noReading)
+no-reading (Opening day reading digits) other = (refl, refl)
+no-reading (Reading day reading fuel) other = absurd (miss unread 1 tt other)
+no-reading (Missed day fuel) other = (refl, refl)
+no-reading (Absent day fuel) other = (refl, refl)
+no-reading (Exchange day old new digits) other = (refl, refl)
+no-reading (Disconnection day reading fuel) other = absurd (miss unread 5 tt other)
+no-reading (Reconnection day reading digits) other = (refl, refl)
+no-reading (Cancellation day reading fuel) other = absurd (miss unread 7 tt other)
+no-reading (Payment day yen) other = (refl, refl)
+no-reading (StoppedCancellation day) other = (refl, refl)
+
+abbrev unmissed : List ℕ
+unmissed = 0 ∷ 1 ∷ 4 ∷ 5 ∷ 6 ∷ 7 ∷ 8 ∷ 9 ∷ []
+
+pub no-miss : (call : Call) → OneOf (0 ∷ 1 ∷ 4 ∷ 5 ∷ 6 ∷ 7 ∷ 8 ∷ 9 ∷ []) (tagOf the-type call) → (misses call ≡ false) × (missIn call ≡ noMiss)
+no-miss (Opening day reading digits) other = (refl, refl)
+no-miss (Reading day reading fuel) other = (refl, refl)
+no-miss (Missed day fuel) other = absurd (miss unmissed 2 tt other)
+no-miss (Absent day fuel) other = absurd (miss unmissed 3 tt other)
+no-miss (Exchange day old new digits) other = (refl, refl)
+no-miss (Disconnection day reading fuel) other = (refl, refl)
+no-miss (Reconnection day reading digits) other = (refl, refl)
+no-miss (Cancellation day reading fuel) other = (refl, refl)
+no-miss (Payment day yen) other = (refl, refl)
+no-miss (StoppedCancellation day) other = (refl, refl)
+
+abbrev closing : List ℕ
+closing = 1 ∷ 2 ∷ 3 ∷ 5 ∷ 7 ∷ []
+
+pub some-closing : (call : Call) → OneOf (1 ∷ 2 ∷ 3 ∷ 5 ∷ 7 ∷ []) (tagOf the-type call) → reads call ≡ false → misses call ≡ false → ⊥
+some-closing (Opening day reading digits) one r m = absurd (miss closing 0 tt one)
+some-closing (Reading day reading fuel) one r m = false≢true (sym r)
+some-closing (Missed day fuel) one r m = false≢true (sym m)
+some-closing (Absent day fuel) one r m = false≢true (sym m)
+some-closing (Exchange day old new digits) one r m = absurd (miss closing 4 tt one)
+some-closing (Disconnection day reading fuel) one r m = false≢true (sym r)
+some-closing (Reconnection day reading digits) one r m = absurd (miss closing 6 tt one)
+some-closing (Cancellation day reading fuel) one r m = false≢true (sym r)
+some-closing (Payment day yen) one r m = absurd (miss closing 8 tt one)
+some-closing (StoppedCancellation day) one r m = absurd (miss closing 9 tt one)

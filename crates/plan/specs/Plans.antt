@@ -27,12 +27,14 @@ use Rattle.plan.specs.declared.Change.{Change}
 use Rattle.plan.specs.declared.Change.the-variants.{Kept, Cleared, Added}
 use Rattle.plan.specs.declared.Then.{Then}
 use Rattle.plan.specs.declared.Then.the-variants.{Goes, Stops, Ends}
+use Rattle.plan.specs.declared.ClosingRead.{ClosingRead}
+use Rattle.plan.specs.declared.Miss.{Miss}
 use Rattle.plan.specs.declared.Figures.{Figures}
 use Rattle.plan.specs.declared.Plan.{Plan}
 use Rattle.plan.specs.Limits.{mostVolume, mostMisses, mostDays, mostCharge, fuelAllowed}
 use Rattle.plan.specs.Statuses.{isSupplied, isCancelled, startOf, stopOf}
 use Rattle.plan.specs.Closing.{daysOf, dayAfter, resumedStart, ofThisPeriod, netOf, storedEstimates}
-use Rattle.plan.specs.Refusals.{firstRefusal}
+use Rattle.plan.specs.Refusals.{readingRefusal, firstRefusal}
 
 -- What is known of the head of every whole account. A meter is known once there is supply.
 pub record MeterBounds (m : Meter) : Type 0 where
@@ -150,6 +152,10 @@ module _ (h : Head) (day : ℕ) (fuel : Fuel) (absent : Bool) (volume : ℕ) whe
         net = pos missCharge;
       }
 
+-- 03 bills the volume of the period just before, 04 bills 0.
+abbrev pub missedVolume : Head → Bool → ℕ
+missedVolume h absent = cond absent 0 (h .meter .previous)
+
 -- 02, 06 and 08, over the estimates that stand.
 abbrev pub finals : Head → List Estimate → ℕ → List ℕ
 finals h estimates reading = finalVolumes estimates (poolTo (h .meter) reading)
@@ -181,6 +187,14 @@ figuredPlan h day reading next f =
 
 abbrev pub readPlan : Head → List Estimate → ℕ → ℕ → Fuel → Then → Plan
 readPlan h estimates day reading fuel next = figuredPlan h day reading next (readFigures h estimates day reading fuel)
+
+-- The same by what the three calls have in common.
+abbrev pub readPlanned : Head → List Estimate → ClosingRead → Plan
+readPlanned h estimates r =
+    plannedAs (readingRefusal h (r .day) (r .reading) (r .fuel)) (readPlan h estimates (r .day) (r .reading) (r .fuel) (r .then)) h
+
+abbrev pub readVolumes : Head → List Estimate → ClosingRead → List ℕ
+readVolumes h estimates r = volumesAs (readingRefusal h (r .day) (r .reading) (r .fuel)) (finals h estimates (r .reading))
 
 -- The plan of each call that 1 to 11 let pass, and the volumes that it makes final.
 unfoldable pub passedPlan : Head → List Estimate → Call → Plan
@@ -217,6 +231,49 @@ plannedVolumes h estimates call = volumesAs (firstRefusal h call) (passedVolumes
 -- Volumes in a lent array, from its start.
 abbrev pub filledWith : List ℕ → List ℕ → List ℕ
 filledWith volumes before = volumes ++ drop (length volumes) before
+
+-- 02, 06 and 08, and 03 and 04, by what they have in common.
+abbrev pub noReading : ClosingRead
+noReading = record { day = 0; reading = 0; fuel = record { lng = 0; propane = 0 }; then = Ends }
+
+abbrev pub readingIn : Call → ClosingRead
+readingIn (Opening day reading digits) = noReading
+readingIn (Reading day reading fuel) = record { day = day; reading = reading; fuel = fuel; then = Goes }
+readingIn (Missed day fuel) = noReading
+readingIn (Absent day fuel) = noReading
+readingIn (Exchange day old new digits) = noReading
+readingIn (Disconnection day reading fuel) = record { day = day; reading = reading; fuel = fuel; then = Stops }
+readingIn (Reconnection day reading digits) = noReading
+readingIn (Cancellation day reading fuel) = record { day = day; reading = reading; fuel = fuel; then = Ends }
+readingIn (Payment day yen) = noReading
+readingIn (StoppedCancellation day) = noReading
+
+abbrev pub noMiss : Miss
+noMiss = record { day = 0; fuel = record { lng = 0; propane = 0 }; absent = true }
+
+abbrev pub missIn : Call → Miss
+missIn (Opening day reading digits) = noMiss
+missIn (Reading day reading fuel) = noMiss
+missIn (Missed day fuel) = record { day = day; fuel = fuel; absent = false }
+missIn (Absent day fuel) = record { day = day; fuel = fuel; absent = true }
+missIn (Exchange day old new digits) = noMiss
+missIn (Disconnection day reading fuel) = noMiss
+missIn (Reconnection day reading digits) = noMiss
+missIn (Cancellation day reading fuel) = noMiss
+missIn (Payment day yen) = noMiss
+missIn (StoppedCancellation day) = noMiss
+
+abbrev pub misses : Call → Bool
+misses (Opening day reading digits) = false
+misses (Reading day reading fuel) = false
+misses (Missed day fuel) = true
+misses (Absent day fuel) = true
+misses (Exchange day old new digits) = false
+misses (Disconnection day reading fuel) = false
+misses (Reconnection day reading digits) = false
+misses (Cancellation day reading fuel) = false
+misses (Payment day yen) = false
+misses (StoppedCancellation day) = false
 
 -- A call that reads the meter to close a period: it alone looks at the estimates.
 abbrev pub reads : Call → Bool

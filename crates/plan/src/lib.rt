@@ -99,6 +99,21 @@ pub enum Then {
     Ends,
 }
 
+// What 02, 06 and 08 have in common, and what follows.
+pub struct ClosingRead {
+    pub day: u16,
+    pub reading: u32,
+    pub fuel: Fuel,
+    pub then: Then,
+}
+
+// What 03 and 04 have in common, and whether absence is known.
+pub struct Miss {
+    pub day: u16,
+    pub fuel: Fuel,
+    pub absent: bool,
+}
+
 // What a reading works out: how many volumes it makes final, this period's, and the net.
 pub struct Figures {
     pub count: usize,

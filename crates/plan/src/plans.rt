@@ -10,12 +10,14 @@ ghost use Rattle.ledger.specs.Posting.{NetBounds};
 ghost use Rattle.plan.specs.Statuses.{isNew, isStopped, stopOf};
 ghost use Rattle.plan.specs.Closing.{resumedStart};
 ghost use Rattle.plan.specs.Limits.{mostVolume};
-ghost use Rattle.plan.specs.Refusals.{begins, dialRefusal, missRefusal, exchangeRefusal, paymentRefusal, readingRefusal};
-ghost use Rattle.plan.specs.Plans.{HeadBounds, EstimatesFit, ends, statusAfter, quietPlan, plannedAs, volumesAs, begunPlan, exchangedPlan, paymentPlan, stoppedPlan, askingPlan, moneyEntry, heldEntry, missPlan, finals, figuredPlan, readPlan, planned, plannedVolumes, filledWith, reads};
+ghost use Rattle.plan.specs.Refusals.{begins, dialRefusal, missRefusal, exchangeRefusal, paymentRefusal};
+ghost use Rattle.plan.specs.Plans.{HeadBounds, EstimatesFit, ends, statusAfter, quietPlan, plannedAs, begunPlan, exchangedPlan, paymentPlan, stoppedPlan, askingPlan, moneyEntry, heldEntry, missPlan, missedVolume, figuredPlan, readPlanned, readVolumes, readingIn, missIn, misses, planned, plannedVolumes, filledWith, reads};
 use crate::Call;
 use crate::Change;
+use crate::ClosingRead;
 use crate::Figures;
 use crate::Head;
+use crate::Miss;
 use crate::Plan;
 use crate::Status;
 use crate::Then;
@@ -50,6 +52,19 @@ const NO_ENTRY: Entry = Entry {
     closes: false,
     charge: 0,
     posts: false,
+};
+
+const NO_READING: ClosingRead = ClosingRead {
+    day: 0,
+    reading: 0,
+    fuel: Fuel { lng: 0, propane: 0 },
+    then: Then::Ends,
+};
+
+const NO_MISS: Miss = Miss {
+    day: 0,
+    fuel: Fuel { lng: 0, propane: 0 },
+    absent: true,
 };
 
 // Whether a call looks at the estimates: it reads the meter, and some stand.
@@ -107,36 +122,32 @@ pub fn plan_call(head: Head, call: Call, volumes: &mut [u32; 7]) -> Plan
     ensures { λ r. ⌜ r ≡ planned head [] call ⌝ }
     ensures { λ _. ⌜ now (volumes .exit) ≡ filledWith (plannedVolumes head [] call) (now (volumes .entry)) ⌝ }
 {
+    if reads(call) {
+        return plan_reading(head, reading_in(call), volumes);
+    }
+    if misses(call) {
+        return plan_miss(head, miss_in(call));
+    }
     match call {
         Call::Opening {
             day,
             reading,
             digits,
         } => plan_opening(head, day, reading, digits),
-        Call::Reading { day, reading, fuel } => {
-            plan_reading(head, day, reading, fuel, Then::Goes, volumes)
-        }
-        Call::Missed { day, fuel } => plan_miss(head, day, fuel, false, head.meter.previous),
-        Call::Absent { day, fuel } => plan_miss(head, day, fuel, true, 0),
         Call::Exchange {
             day,
             old,
             new,
             digits,
         } => plan_exchange(head, day, old, new, digits),
-        Call::Disconnection { day, reading, fuel } => {
-            plan_reading(head, day, reading, fuel, Then::Stops, volumes)
-        }
         Call::Reconnection {
             day,
             reading,
             digits,
         } => plan_reconnection(head, day, reading, digits),
-        Call::Cancellation { day, reading, fuel } => {
-            plan_reading(head, day, reading, fuel, Then::Ends, volumes)
-        }
         Call::Payment { day, yen } => plan_payment(head, day, yen),
         Call::StoppedCancellation { day } => plan_stopped(head, day),
+        _ => quiet(0, head),
     }
 }
 
@@ -149,17 +160,72 @@ pub fn plan_over(head: Head, estimates: Estimates, call: Call, volumes: &mut [u3
     ensures { λ r. ⌜ r ≡ planned head (standing estimates) call ⌝ }
     ensures { λ _. ⌜ now (volumes .exit) ≡ filledWith (plannedVolumes head (standing estimates) call) (now (volumes .entry)) ⌝ }
 {
+    plan_reading_over(head, estimates, reading_in(call), volumes)
+}
+
+// 02, 06 and 08 by what they have in common, so that their road is one.
+fn reading_in(call: Call) -> ClosingRead
+    ensures { λ r. ⌜ r ≡ readingIn call ⌝ }
+{
     match call {
         Call::Reading { day, reading, fuel } => {
-            plan_reading_over(head, estimates, day, reading, fuel, Then::Goes, volumes)
+            ClosingRead {
+                day,
+                reading,
+                fuel,
+                then: Then::Goes,
+            }
         }
         Call::Disconnection { day, reading, fuel } => {
-            plan_reading_over(head, estimates, day, reading, fuel, Then::Stops, volumes)
+            ClosingRead {
+                day,
+                reading,
+                fuel,
+                then: Then::Stops,
+            }
         }
         Call::Cancellation { day, reading, fuel } => {
-            plan_reading_over(head, estimates, day, reading, fuel, Then::Ends, volumes)
+            ClosingRead {
+                day,
+                reading,
+                fuel,
+                then: Then::Ends,
+            }
         }
-        _ => quiet(0, head),
+        _ => NO_READING,
+    }
+}
+
+fn misses(call: Call) -> bool
+    ensures { λ r. ⌜ r ≡ misses call ⌝ }
+{
+    match call {
+        Call::Missed { day: _, fuel: _ } => true,
+        Call::Absent { day: _, fuel: _ } => true,
+        _ => false,
+    }
+}
+
+// 03 and 04 likewise.
+fn miss_in(call: Call) -> Miss
+    ensures { λ r. ⌜ r ≡ missIn call ⌝ }
+{
+    match call {
+        Call::Missed { day, fuel } => {
+            Miss {
+                day,
+                fuel,
+                absent: false,
+            }
+        }
+        Call::Absent { day, fuel } => {
+            Miss {
+                day,
+                fuel,
+                absent: true,
+            }
+        }
+        _ => NO_MISS,
     }
 }
 
@@ -313,17 +379,23 @@ fn asking(head: Head, status: Status, entry: Entry) -> Plan
     }
 }
 
-// 03 and 04
-fn plan_miss(head: Head, day: u16, fuel: Fuel, absent: bool, volume: u32) -> Plan
+// 03 bills the volume of the period just before, 04 bills 0.
+fn plan_miss(head: Head, miss: Miss) -> Plan
     requires { ⌜ HeadBounds head ⌝ }
-    requires { ⌜ volume ≤ mostVolume ⌝ }
-    ensures { λ r. ⌜ r ≡ plannedAs (missRefusal head day fuel) (missPlan head day fuel absent volume) head ⌝ }
+    ensures { λ r. ⌜ r ≡ plannedAs (missRefusal head (miss .day) (miss .fuel)) (missPlan head (miss .day) (miss .fuel) (miss .absent) (missedVolume head (miss .absent))) head ⌝ }
 {
-    let number = miss_refusal(head, day, fuel);
+    let number = miss_refusal(head, miss.day, miss.fuel);
     if number != 0 {
         return quiet(number, head);
     }
-    estimate_period(head, day, fuel, absent, volume)
+    let volume = missed_volume(head, miss.absent);
+    estimate_period(head, miss.day, miss.fuel, miss.absent, volume)
+}
+
+fn missed_volume(head: Head, absent: bool) -> u32
+    ensures { λ r. ⌜ r ≡ missedVolume head absent ⌝ }
+{
+    if absent { 0 } else { head.meter.previous }
 }
 
 // The period is billed on an estimate, which stands until a reading.
@@ -374,49 +446,41 @@ fn estimate_period(head: Head, day: u16, fuel: Fuel, absent: bool, volume: u32) 
 }
 
 // 02, 06 and 08 where no estimate stands
-fn plan_reading(
-    head: Head,
-    day: u16,
-    reading: u32,
-    fuel: Fuel,
-    then: Then,
-    volumes: &mut [u32; 7],
-) -> Plan
+fn plan_reading(head: Head, read: ClosingRead, volumes: &mut [u32; 7]) -> Plan
     requires { ⌜ HeadBounds head ⌝ }
     requires { ⌜ length (now volumes) ≡ 7 ⌝ }
-    ensures { λ r. ⌜ r ≡ plannedAs (readingRefusal head day reading fuel) (readPlan head [] day reading fuel then) head ⌝ }
-    ensures { λ _. ⌜ now (volumes .exit) ≡ filledWith (volumesAs (readingRefusal head day reading fuel) (finals head [] reading)) (now (volumes .entry)) ⌝ }
+    ensures { λ r. ⌜ r ≡ readPlanned head [] read ⌝ }
+    ensures { λ _. ⌜ now (volumes .exit) ≡ filledWith (readVolumes head [] read) (now (volumes .entry)) ⌝ }
 {
-    let number = reading_refusal(head, day, reading, fuel);
+    let number = reading_refusal(head, read.day, read.reading, read.fuel);
     if number != 0 {
         return quiet(number, head);
     }
-    let figures = close_alone(head, day, reading, fuel, volumes);
-    after_reading(head, day, reading, then, figures)
+    let figures = close_alone(head, read.day, read.reading, read.fuel, volumes);
+    let then = read.then;
+    after_reading(head, read.day, read.reading, then, figures)
 }
 
 // 02, 06 and 08 where estimates stand
 fn plan_reading_over(
     head: Head,
     estimates: Estimates,
-    day: u16,
-    reading: u32,
-    fuel: Fuel,
-    then: Then,
+    read: ClosingRead,
     volumes: &mut [u32; 7],
 ) -> Plan
     requires { ⌜ HeadBounds head ⌝ }
     requires { ⌜ EstimatesFit head estimates ⌝ }
     requires { ⌜ length (now volumes) ≡ 7 ⌝ }
-    ensures { λ r. ⌜ r ≡ plannedAs (readingRefusal head day reading fuel) (readPlan head (standing estimates) day reading fuel then) head ⌝ }
-    ensures { λ _. ⌜ now (volumes .exit) ≡ filledWith (volumesAs (readingRefusal head day reading fuel) (finals head (standing estimates) reading)) (now (volumes .entry)) ⌝ }
+    ensures { λ r. ⌜ r ≡ readPlanned head (standing estimates) read ⌝ }
+    ensures { λ _. ⌜ now (volumes .exit) ≡ filledWith (readVolumes head (standing estimates) read) (now (volumes .entry)) ⌝ }
 {
-    let number = reading_refusal(head, day, reading, fuel);
+    let number = reading_refusal(head, read.day, read.reading, read.fuel);
     if number != 0 {
         return quiet(number, head);
     }
-    let figures = close_over(head, estimates, day, reading, fuel, volumes);
-    after_reading(head, day, reading, then, figures)
+    let figures = close_over(head, estimates, read.day, read.reading, read.fuel, volumes);
+    let then = read.then;
+    after_reading(head, read.day, read.reading, then, figures)
 }
 
 // All volumes are final, so no estimate stands and the pool is 0. A cancellation posts the interest that it brings, too.

@@ -8,3 +8,4 @@ pub mod Reached
 pub mod Going
 pub mod Planning
 pub mod Entering
+pub mod Room

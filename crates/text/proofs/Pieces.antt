@@ -85,7 +85,7 @@ went-kept : (s : State) (part : List ℕ) (c : ℕ) (cs : List ℕ) (f : Feeding
 unfolding partAfter linesIn accountAfter answersOf
 went-kept s part c cs f e k w = record { holds = rw e (w .holds); account-is = rw (e, ← k) (w .account-is); output-is = rw (e, ← k) (w .output-is) }
 
-kept-account : (s : State) (c : ℕ) → kept s c .account ≡ s .account
+pub kept-account : (s : State) (c : ℕ) → kept s c .account ≡ s .account
 kept-account s c = go (ltb (s .length) 31)
   where
     go : (b : Bool) → cond b (record { account = s .account; length = suc (s .length); line = set (s .line) (s .length) c }) s .account ≡ s .account

@@ -1,7 +1,7 @@
 -- A line ends at LF; a last line may lack it.
 use mathlib.Core.Bool.{cond}
 use mathlib.Core.List.{List, [], _∷_, _++_}
-use Prim.Native.Nat.{ℕ}
+use Prim.Native.Nat.{ℕ, suc}
 use lib.Dec.{eqb}
 use Rattle.wire.specs.Answers.{lineFeed}
 
@@ -17,3 +17,8 @@ linesFrom part (c ∷ cs) = cond (eqb c lineFeed) (part ∷ linesFrom [] cs) (li
 
 abbrev pub linesOf : List ℕ → List (List ℕ)
 linesOf input = linesFrom [] input
+
+-- The line ends in an input: it has at most one line more.
+abbrev pub endsIn : List ℕ → ℕ
+endsIn [] = 0
+endsIn (c ∷ cs) = cond (eqb c lineFeed) (suc (endsIn cs)) (endsIn cs)

@@ -17,7 +17,7 @@ ghost use Rattle.wire.specs.Answers.{answerLine, longestAnswer};
 ghost use Rattle.wire.specs.Notices.{noticeLength};
 ghost use Rattle.text.specs.Output.{accountAfter, noticesOf, openNotices, bill, notice, longestInput, sizeOf, fittedAt, fitted, worked};
 ghost use Rattle.text.specs.Reached.{Ready};
-ghost use Rattle.text.specs.Lines.{linesOf};
+ghost use Rattle.text.specs.Lines.{endsIn, linesOf};
 ghost use Rattle.text.specs.Pieces.{Sums};
 ghost use Rattle.text.specs.Feeding.{keptMost, blankLine, fresh, feeding, finishing, fedOf};
 ghost use Rattle.text.specs.Going.{state, Keeps, Found, waitingAt};
@@ -30,6 +30,7 @@ use ledger::Queue;
 use ledger::limits::CAPACITY;
 use ledger::limits::LANE_PLACES;
 use meter::Estimates;
+use meter::Meter;
 use plan::Head;
 use plan::Plan;
 use wire::Fields;
@@ -275,10 +276,27 @@ fn unasked(number: u8, queue: Queue) -> Entered
     }
 }
 
+// The head behind a line. Field by field, so that the compiler keeps the plan out of memory.
 fn head_after(number: u8, plan: Plan, head: Head) -> Head
     ensures { λ r. ⌜ r ≡ headAfter number plan head ⌝ }
 {
-    if number == 0 { plan.head } else { head }
+    if number != 0 {
+        return head;
+    }
+    let next = plan.head;
+    let status = next.status;
+    let meter = next.meter;
+    Head {
+        status,
+        latest: next.latest,
+        meter: Meter {
+            digits: meter.digits,
+            dial: meter.dial,
+            pool: meter.pool,
+            previous: meter.previous,
+        },
+        standing: next.standing,
+    }
 }
 
 // A line's answer, and the place behind it.
@@ -550,7 +568,8 @@ fn work_input(input: &[u8], out: &mut [u8], writing: bool) -> Billed
     Billed { account, size }
 }
 
-// What `bill` writes for an input, and its size; where out is too short for it, nothing is written.
+// What `bill` writes for an input, and its size; where out is too short for it, nothing is written. Where there is room for the longest
+// answer to each line it is written as it is worked, and else measured first.
 pub fn write_bill(input: &[u8], out: &mut [u8]) -> usize
     ensures { λ r. ⌜ r ≡ sizeOf (now (input .entry)) (bill (now (input .entry))) ⌝ }
     ensures { λ _. ⌜ now (out .exit) ≡ worked (now (input .entry)) (now (out .entry)) (bill (now (input .entry))) ⌝ }
@@ -559,11 +578,47 @@ pub fn write_bill(input: &[u8], out: &mut [u8]) -> usize
     if input.len() > LONGEST_INPUT {
         return 18_446_744_073_709_551_615;
     }
+    if 117 * (count_ends(input) + 1) <= out.len() {
+        return write_at_once(input, out);
+    }
     let measured = work_input(input, out, false);
     if measured.size <= out.len() {
         work_input(input, out, true);
     }
     measured.size
+}
+
+// The line ends in an input.
+fn count_ends(input: &[u8]) -> usize
+    ensures { λ r. ⌜ r ≡ endsIn (now (input .entry)) ⌝ }
+    ensures { λ r. ⌜ r ≤ length (now (input .entry)) ⌝ }
+{
+    let mut ends: usize = 0;
+    let mut i: usize = 0;
+    while i < input.len() {
+        if input[i] == 10 {
+            ends += 1;
+        }
+        i += 1;
+    }
+    ends
+}
+
+// What `bill` writes, written as the input is worked, and its size.
+fn write_at_once(input: &[u8], out: &mut [u8]) -> usize
+    requires { ⌜ longestAnswer * (endsIn (now input) + 1) ≤ length (now out) ⌝ }
+    ensures { λ r. ⌜ r ≡ length (bill (now (input .entry))) ⌝ }
+    ensures { λ r. ⌜ r ≤ length (now (out .entry)) ⌝ }
+    ensures { λ _. ⌜ now (out .exit) ≡ written (now (out .entry)) 0 (bill (now (input .entry))) ⌝ }
+{
+    let fed = feed(State::new(), input, out);
+    let filled = fed.written;
+    let state = fed.state;
+    let mut space = [0u8; 117];
+    let last = finish(state, &mut space);
+    let more = last.written;
+    put_part(&space[..more], out, filled, true);
+    filled + more
 }
 
 // What `notice` writes for an input, and its size; where out is too short for it, nothing is written.

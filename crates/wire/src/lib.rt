@@ -77,18 +77,6 @@ fn value_or(character: u8) -> u64
     NO_DIGIT
 }
 
-// A line to the call that it is.
-pub fn decode(line: &[u8], table: &[u64; 256]) -> Parsed
-    requires { ⌜ ValueTable (now table) ⌝ }
-    ensures { λ r. ⌜ r ≡ parsed (now (line .entry)) ⌝ }
-{
-    let fields = fields_in(line, table);
-    if fields.width == 0 {
-        return Parsed::NotAFrame;
-    }
-    Parsed::Frame(call_of(fields))
-}
-
 // The frame that a line is.
 pub fn fields_in(line: &[u8], table: &[u64; 256]) -> Fields
     requires { ⌜ ValueTable (now table) ⌝ }
@@ -337,6 +325,15 @@ pub fn call_of(fields: Fields) -> Call
     let second = fields.second as u32;
     let third = fields.third as u32;
     let short = fields.short as u8;
+    // the prices of 03 and 04, and those behind a reading
+    let alone = Fuel {
+        lng: first,
+        propane: second,
+    };
+    let behind = Fuel {
+        lng: second,
+        propane: third,
+    };
     match kind {
         49 => Call::Opening {
             day,
@@ -346,25 +343,10 @@ pub fn call_of(fields: Fields) -> Call
         50 => Call::Reading {
             day,
             reading: first,
-            fuel: Fuel {
-                lng: second,
-                propane: third,
-            },
+            fuel: behind,
         },
-        51 => Call::Missed {
-            day,
-            fuel: Fuel {
-                lng: first,
-                propane: second,
-            },
-        },
-        52 => Call::Absent {
-            day,
-            fuel: Fuel {
-                lng: first,
-                propane: second,
-            },
-        },
+        51 => Call::Missed { day, fuel: alone },
+        52 => Call::Absent { day, fuel: alone },
         53 => Call::Exchange {
             day,
             old: first,
@@ -374,10 +356,7 @@ pub fn call_of(fields: Fields) -> Call
         54 => Call::Disconnection {
             day,
             reading: first,
-            fuel: Fuel {
-                lng: second,
-                propane: third,
-            },
+            fuel: behind,
         },
         55 => Call::Reconnection {
             day,
@@ -387,10 +366,7 @@ pub fn call_of(fields: Fields) -> Call
         56 => Call::Cancellation {
             day,
             reading: first,
-            fuel: Fuel {
-                lng: second,
-                propane: third,
-            },
+            fuel: behind,
         },
         57 => Call::Payment { day, yen: first },
         _ => Call::StoppedCancellation { day },
@@ -467,31 +443,6 @@ pub fn put_refusal(number: u8, out: &mut [u8], at: usize, pairs: &[u8; 512]) -> 
     put_zeros(out, at + 2, 58);
     out[at + 60] = 10;
     at + 61
-}
-
-// An answer's line, and the place behind it.
-pub fn put_answer(answer: Answer, out: &mut [u8], at: usize, pairs: &[u8; 512]) -> usize
-    requires { ⌜ at + longestAnswer ≤ length (now out) ⌝ }
-    requires { ⌜ PairTable (now pairs) ⌝ }
-    ensures { λ _. ⌜ now (out .exit) ≡ written (now (out .entry)) at (answerLine answer) ⌝ }
-    ensures { λ r. ⌜ r ≡ at + length (answerLine answer) ⌝ }
-    ensures { λ r. ⌜ r ≤ at + longestAnswer ⌝ }
-{
-    let volumes = answer.volumes;
-    let entries = volumes.volumes;
-    put_frame(
-        answer.number,
-        answer.estimated,
-        &entries,
-        volumes.count,
-        answer.net,
-        answer.interest,
-        answer.unpaid,
-        answer.credit,
-        out,
-        at,
-        pairs,
-    )
 }
 
 // The line of an answer from its numbers, and the place behind it.

@@ -1,68 +1,96 @@
+-- An input is too long, or there is room for the longest answers, or it is measured: then all of the output fits, or it does not.
 use mathlib.Core.Path.{_≡_, refl, ap, _∙_}
 use mathlib.Core.Bool.{false≢true}
+use mathlib.Core.List.{List}
+use Prim.Native.Nat.{ℕ, _≤_, _<_}
 use native.Mathlib.Omega.{arith}
 use lib.ListN.{length}
-use borrow.Author.Tests.{le-leb, lt-leb}
-use Rattle.text.specs.declared.Billed.{Billed}
-use Prim.Native.Nat.{_≤_, _<_}
-use Rattle.wire.specs.Digits.{written}
-use Rattle.text.specs.Lines.{linesOf}
-use Rattle.text.specs.Output.{bill}
-use Rattle.text.proofs.Sums.{sums}
 use borrow.Author.Needs.{needs}
+use borrow.Author.Tests.{le-leb, lt-leb}
+use Rattle.wire.specs.Digits.{written}
+use Rattle.text.specs.declared.Billed.{Billed}
+use Rattle.text.specs.Lines.{linesOf}
+use Rattle.text.specs.Output.{bill, longestInput}
+use Rattle.text.proofs.Sums.{sums}
 use Rattle.text.proofs.write_bill.Statement.{statement}
 use Rattle.text.proofs.write_bill.Tie as tie
 
-size-is : (c : tie.After-work-input) → c .work-input .result .size ≡ length (bill (c .before .before .before .before .before .args .input .now))
-size-is c = ap (λ (r : Billed). r .size) (c .work-input .ensures .0)
+module _ (s : tie.Start) where
+  abbrev input : List ℕ
+  input = s .args .input .now
 
--- what was measured fits, and the first run left out as it was
-fits : (c : tie.Then2) → length (bill (c .before .before .before .before .before .before .before .before .before .args .input .now)) ≤ length (c .before .before .before .before .before .before .before .before .before .args .out .now)
-fits c = let same = ap length (c .before .before .before .before .work-input .ensures .1) in
-    omega (arith, same, size-is (c .before .before .before .before), c .if2 .taken)
+  abbrev out : List ℕ
+  out = s .args .out .now
 
-room : (c : tie.Then2) → length (bill (c .before .before .before .before .before .before .before .before .before .args .input .now)) ≤ length (c .before .before .before .before .work-input .last .1 .0)
-room c = rw (← size-is (c .before .before .before .before)) (c .if2 .taken)
+-- It is measured, and `out` is as it was.
+module _ (c : tie.After-work-input) where
+  abbrev start : tie.Start
+  start = c .before .before .before .before .before .before .before
 
-short : (c : tie.Else2) → length (c .before .before .before .before .before .before .before .before .before .args .out .now) < length (bill (c .before .before .before .before .before .before .before .before .before .args .input .now))
-short c = let same = ap length (c .before .before .before .before .work-input .ensures .1) in
-    omega (arith, same, size-is (c .before .before .before .before), c .if2 .left)
+  size-is : c .work-input .result .size ≡ length (bill (input start))
+  size-is = ap (λ (r : Billed). r .size) (c .work-input .ensures .0)
+
+  same : length (c .work-input .last .1 .0) ≡ length (out start)
+  same = ap length (c .work-input .ensures .1)
 
 returns : tie.Need-returns
-returns c = rw (lt-leb (length (c .before .before .before .args .input .now)) 281474976710656 (c .if1 .taken)) (refl, (refl, sums (linesOf (c .before .before .before .args .input .now))))
-
-work-input-requires : tie.Need-work-input-requires
-work-input-requires c κs = (c .before .if1 .left, λ e. absurd (false≢true e))
-
-work-input-requires-2 : tie.Need-work-input-requires-2
-work-input-requires-2 c κs = (c .before .before .before .before .before .before .before .if1 .left, λ _. room (c .before))
-
-same-length : tie.Need-same-length
-same-length c = search needs
+returns c =
+    let s : tie.Start = search in
+    rw (lt-leb (length (input s)) longestInput (c .if1 .taken)) (refl, (refl, sums (linesOf (input s))))
 
 returns-2 : tie.Need-returns-2
-returns-2 c = let input = c .before .before .before .before .before .before .before .before .before .before .before .before .before .args .input .now in
-    let out = c .before .before .before .before .before .before .before .before .before .before .before .before .before .args .out .now in
-    rw (le-leb (length input) 281474976710656 (c .before .before .before .before .before .before .before .before .before .before .if1 .left), le-leb (length (bill input)) (length out) (fits (c .before .before .before .before)))
-    (size-is (c .before .before .before .before .before .before .before .before), (c .before .before .work-input2 .ensures .1 ∙ ap (λ t. written t 0 (bill input)) (c .before .before .before .before .before .before .before .before .work-input .ensures .1), sums (linesOf input)))
+returns-2 c =
+    let s : tie.Start = search in
+    let short : tie.Else1 = search in
+    let w : tie.After-write-at-once = search in
+    let size = w .write-at-once .ensures .0 in
+    rw (le-leb (length (input s)) longestInput (short .if1 .left), le-leb (length (bill (input s))) (length (out s)) (omega (arith, size, w .write-at-once .ensures .1 .0)))
+    (size, (w .write-at-once .ensures .1 .1, sums (linesOf (input s))))
 
-same-length-2 : tie.Need-same-length-2
-same-length-2 c = search needs
+work-input-requires : tie.Need-work-input-requires
+work-input-requires c κs = let short : tie.Else1 = search in (short .if1 .left, λ e. absurd (false≢true e))
+
+work-input-requires-2 : tie.Need-work-input-requires-2
+work-input-requires-2 c κs =
+    let short : tie.Else1 = search in
+    let m : tie.After-work-input = search in
+    let fits : tie.Then3 = search in
+    (short .if1 .left, λ e. rw (← size-is m) (fits .if3 .taken))
 
 returns-3 : tie.Need-returns-3
-returns-3 c = let input = c .before .before .before .before .before .before .before .before .before .args .input .now in
-    let out = c .before .before .before .before .before .before .before .before .before .args .out .now in
-    rw (le-leb (length input) 281474976710656 (c .before .before .before .before .before .before .if1 .left), lt-leb (length (bill input)) (length out) (short c))
-    (size-is (c .before .before .before .before), (c .before .before .before .before .work-input .ensures .1, sums (linesOf input)))
+returns-3 c =
+    let s : tie.Start = search in
+    let short : tie.Else1 = search in
+    let m : tie.After-work-input = search in
+    let fits : tie.Then3 = search in
+    let w : tie.After-work-input2 = search in
+    let room : length (bill (input s)) ≤ length (out s) = omega (arith, size-is m, same m, fits .if3 .taken) in
+    rw (le-leb (length (input s)) longestInput (short .if1 .left), le-leb (length (bill (input s))) (length (out s)) room)
+    (size-is m, (w .work-input2 .ensures .1 ∙ ap (λ t. written t 0 (bill (input s))) (m .work-input .ensures .1), sums (linesOf (input s))))
+
+returns-4 : tie.Need-returns-4
+returns-4 c =
+    let s : tie.Start = search in
+    let short : tie.Else1 = search in
+    let m : tie.After-work-input = search in
+    let more : length (out s) < length (bill (input s)) = omega (arith, size-is m, same m, c .if3 .left) in
+    rw (le-leb (length (input s)) longestInput (short .if1 .left), lt-leb (length (bill (input s))) (length (out s)) more)
+    (size-is m, (m .work-input .ensures .1, sums (linesOf (input s))))
 
 pub write-bill-spec : {M : Type 1} → statement M
 write-bill-spec =
     tie.close
     (tie.spec
     returns
+    (λ c κs. search needs)  -- count-ends-requires
+    (λ c. search needs)  -- add-if2
+    (λ c. search needs)  -- mul-if2
+    (λ c κs. search needs)  -- write-at-once-requires
+    (λ c. search needs)  -- same-length
+    returns-2
     work-input-requires
     work-input-requires-2
-    same-length
-    returns-2
-    same-length-2
-    returns-3)
+    (λ c. search needs)  -- same-length-2
+    returns-3
+    (λ c. search needs)  -- same-length-3
+    returns-4)

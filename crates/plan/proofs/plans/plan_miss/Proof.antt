@@ -1,8 +1,18 @@
-use mathlib.Core.Path.{sym, _∙_}
+use mathlib.Core.Path.{sym, ap, _∙_}
+use Prim.Native.Nat.{ℕ, _≤_}
+use mathlib.Core.Bool.{Bool, true, false, cond}
+use native.Mathlib.Omega.{arith}
 use borrow.Author.Needs.{needs}
+use Rattle.plan.specs.declared.Head.{Head}
+use Rattle.plan.specs.Limits.{mostVolume}
+use Rattle.plan.specs.Plans.{HeadBounds, missedVolume, missPlan}
 use Rattle.plan.proofs.Planning.{plan-declined, plan-passed}
 use Rattle.plan.proofs.plans.plan_miss.Statement.{statement}
 use Rattle.plan.proofs.plans.plan_miss.Tie as tie
+
+volume-most : (h : Head) → HeadBounds h → (absent : Bool) → missedVolume h absent ≤ mostVolume
+volume-most h w true = omega arith
+volume-most h w false = w .previous-most
 
 returns : tie.Need-returns
 returns c =
@@ -11,13 +21,19 @@ returns c =
 
 estimate-period-requires : tie.Need-estimate-period-requires
 estimate-period-requires c κs =
-    let s = c .before .before in
-    (s .pre .0, (sym (c .before .miss-refusal .ensures) ∙ c .if1 .left, s .pre .1))
+    let s : tie.Start = search in
+    let d : tie.After-miss-refusal = search in
+    let one : tie.Else1 = search in
+    (s .pre, (sym (d .miss-refusal .ensures) ∙ one .if1 .left, rw (c .missed-volume .ensures) (volume-most (s .args .head) (s .pre) (s .args .miss .absent))))
 
 returns-2 : tie.Need-returns-2
 returns-2 c =
+    let s : tie.Start = search in
     let d : tie.After-miss-refusal = search in
-    c .estimate-period .ensures ∙ plan-passed (d .miss-refusal .ensures) (c .before .if1 .left) _ _
+    let one : tie.Else1 = search in
+    let m = s .args .miss in
+    c .estimate-period .ensures ∙ ap (missPlan (s .args .head) (m .day) (m .fuel) (m .absent)) (c .before .missed-volume .ensures) ∙
+    plan-passed (d .miss-refusal .ensures) (one .if1 .left) _ _
 
 pub plan-miss-spec : {M : Type 1} → statement M
 plan-miss-spec =
@@ -26,5 +42,6 @@ plan-miss-spec =
     (λ c κs. search needs)  -- miss-refusal-requires
     (λ c κs. search needs)  -- quiet-requires
     returns
+    (λ c κs. search needs)  -- missed-volume-requires
     estimate-period-requires
     returns-2)

@@ -11,10 +11,10 @@ use Rattle.plan.proofs.Planning.{plan-declined, plan-passed, volumes-de
 use Rattle.plan.proofs.plans.plan_reading.Statement.{statement}
 use Rattle.plan.proofs.plans.plan_reading.Tie as tie
 
-ready : (c : tie.Else1) → let s = c .before .before .args in ReadingReady (s .head) (s .day) (s .reading) (s .fuel)
+ready : (c : tie.Else1) → let s = c .before .before .args in ReadingReady (s .head) (s .read .day) (s .read .reading) (s .read .fuel)
 ready c =
     let s = c .before .before .args in
-    reading-ready (s .head) (s .day) (s .reading) (s .fuel) (c .before .before .pre .0) (sym (c .before .reading-refusal .ensures) ∙ c .if1 .left)
+    reading-ready (s .head) (s .read .day) (s .read .reading) (s .read .fuel) (c .before .before .pre .0) (sym (c .before .reading-refusal .ensures) ∙ c .if1 .left)
 
 returns : tie.Need-returns
 returns c =
@@ -32,7 +32,7 @@ after-reading-requires : tie.Need-after-reading-requires
 after-reading-requires c κs =
     let one : tie.Else1 = search in
     let s = one .before .before .args in
-    let bounds = read-net-bounds (s .head) [] (s .day) (s .reading) (s .fuel) (ready one) (omega arith) tt in
+    let bounds = read-net-bounds (s .head) [] (s .read .day) (s .read .reading) (s .read .fuel) (ready one) (omega arith) tt in
     (ready one .day-most, subst (λ (f : Figures). NetBounds (f .net)) (sym (c .close-alone .ensures .0)) bounds)
 
 returns-2 : tie.Need-returns-2
@@ -42,7 +42,7 @@ returns-2 c =
     let k : tie.After-close-alone = search in
     let s = d .before .args in
     let is = d .reading-refusal .ensures in (
-      c .after-reading .ensures ∙ ap (figuredPlan (s .head) (s .day) (s .reading) (s .then)) (k .close-alone .ensures .0) ∙ plan-passed is (one .if1 .left) _ _,
+      c .after-reading .ensures ∙ ap (figuredPlan (s .head) (s .read .day) (s .read .reading) (s .read .then)) (k .close-alone .ensures .0) ∙ plan-passed is (one .if1 .left) _ _,
       k .close-alone .ensures .1 ∙ volumes-passed is (one .if1 .left) _ _,
     )
 

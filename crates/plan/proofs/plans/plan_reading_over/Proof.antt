@@ -12,10 +12,10 @@ use Rattle.plan.proofs.Planning.{plan-declined, plan-passed, volumes-de
 use Rattle.plan.proofs.plans.plan_reading_over.Statement.{statement}
 use Rattle.plan.proofs.plans.plan_reading_over.Tie as tie
 
-ready : (c : tie.Else1) → let s = c .before .before .args in ReadingReady (s .head) (s .day) (s .reading) (s .fuel)
+ready : (c : tie.Else1) → let s = c .before .before .args in ReadingReady (s .head) (s .read .day) (s .read .reading) (s .read .fuel)
 ready c =
     let s = c .before .before .args in
-    reading-ready (s .head) (s .day) (s .reading) (s .fuel) (c .before .before .pre .0) (sym (c .before .reading-refusal .ensures) ∙ c .if1 .left)
+    reading-ready (s .head) (s .read .day) (s .read .reading) (s .read .fuel) (c .before .before .pre .0) (sym (c .before .reading-refusal .ensures) ∙ c .if1 .left)
 
 returns : tie.Need-returns
 returns c =
@@ -33,7 +33,7 @@ after-reading-requires : tie.Need-after-reading-requires
 after-reading-requires c κs =
     let one : tie.Else1 = search in
     let s = one .before .before .args in
-    let bounds = read-net-bounds (s .head) (standing (s .estimates)) (s .day) (s .reading) (s .fuel) (ready one) (omega (arith, length-take-most (s .estimates .count) (s .estimates .periods), one .before .before .pre .1 .0 .few)) (one .before .before .pre .1 .0 .within) in
+    let bounds = read-net-bounds (s .head) (standing (s .estimates)) (s .read .day) (s .read .reading) (s .read .fuel) (ready one) (omega (arith, length-take-most (s .estimates .count) (s .estimates .periods), one .before .before .pre .1 .0 .few)) (one .before .before .pre .1 .0 .within) in
     (ready one .day-most, subst (λ (f : Figures). NetBounds (f .net)) (sym (c .close-over .ensures .0)) bounds)
 
 returns-2 : tie.Need-returns-2
@@ -43,7 +43,7 @@ returns-2 c =
     let k : tie.After-close-over = search in
     let s = d .before .args in
     let is = d .reading-refusal .ensures in (
-      c .after-reading .ensures ∙ ap (figuredPlan (s .head) (s .day) (s .reading) (s .then)) (k .close-over .ensures .0) ∙ plan-passed is (one .if1 .left) _ _,
+      c .after-reading .ensures ∙ ap (figuredPlan (s .head) (s .read .day) (s .read .reading) (s .read .then)) (k .close-over .ensures .0) ∙ plan-passed is (one .if1 .left) _ _,
       k .close-over .ensures .1 ∙ volumes-passed is (one .if1 .left) _ _,
     )
 

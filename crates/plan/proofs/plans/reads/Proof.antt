@@ -14,4 +14,4 @@ reads-spec =
     (λ c. search needs)  -- returns
     (λ c. search needs)  -- returns-2
     (λ c. search needs)  -- returns-3
-    (λ c. sym (no-reading (c .before .args .call) (c .match .keys4))))  -- returns-4
+    (λ c. sym (no-reading (c .before .args .call) (c .match .keys4) .0)))  -- returns-4

@@ -1,0 +1,16 @@
+use mathlib.Core.Path.{sym, ap}
+use borrow.Author.Needs.{needs}
+use Rattle.plan.specs.Plans.{missIn}
+use Rattle.plan.proofs.Planning.{no-miss}
+use Rattle.plan.proofs.plans.miss_in.Statement.{statement}
+use Rattle.plan.proofs.plans.miss_in.Tie as tie
+
+pub miss-in-spec : {M : Type 1} → statement M
+miss-in-spec =
+    tie.close
+    (tie.spec
+    (λ c. search needs)  -- Missed
+    (λ c. search needs)  -- Absent
+    (λ c. sym (ap missIn (c .before .call .given .1)))  -- returns
+    (λ c. sym (ap missIn (c .before .call2 .given .1)))  -- returns-2
+    (λ c. sym (no-miss (c .before .args .call) (c .match .keys3) .1)))  -- returns-3
