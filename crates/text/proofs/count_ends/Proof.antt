@@ -48,10 +48,10 @@ count-ends-spec =
     (λ c κs. let b : Walk tie.After-block-end = search in let e = b .block-end .ensures in (omega (arith, e .0), (e .1 .0, e .1 .1)))  -- ends-between-requires
     (λ c. search needs)  -- cast-ends
     (λ c.
-      let l : Walk tie.At-loop = search in
-      let b : Walk tie.After-block-end = search in
-      let e : Walk tie.After-ends-between = search in
-      omega (arith, l .loop .inv .few, e .ends-between .ensures .1, b .block-end .ensures .1 .0))  -- add-ends
+    let l : Walk tie.At-loop = search in
+    let b : Walk tie.After-block-end = search in
+    let e : Walk tie.After-ends-between = search in
+    omega (arith, l .loop .inv .few, e .ends-between .ensures .1, b .block-end .ensures .1 .0))  -- add-ends
     (λ c. let b : Walk tie.After-block-end = search in omega (arith, b .block-end .ensures .0, b .block-end .ensures .1 .0))  -- loop-less
     loop-again
     returns)

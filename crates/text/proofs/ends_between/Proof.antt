@@ -63,10 +63,10 @@ ends-between-spec =
     (λ c. record { onward = omega arith; within = c .pre .0; few = omega arith; counted = zero-add _ })  -- loop-holds
     (λ c. let s : Walk tie.Start = search in let more : Walk tie.In-loop = search in omega (arith, more .loop-test .taken, s .pre .1 .0))  -- shared-slice-read-if1
     (λ c.
-      let s : Walk tie.Start = search in
-      let l : Walk tie.At-loop = search in
-      let more : Walk tie.In-loop = search in
-      omega (arith, l .loop .inv .few, more .loop-test .taken, s .pre .1 .1))  -- add-ends
+    let s : Walk tie.Start = search in
+    let l : Walk tie.At-loop = search in
+    let more : Walk tie.In-loop = search in
+    omega (arith, l .loop .inv .few, more .loop-test .taken, s .pre .1 .1))  -- add-ends
     (λ c. omega arith)  -- add-i
     (λ c. omega arith)  -- loop-less
     loop-again
