@@ -20,6 +20,9 @@ extern "C" {
     ) -> usize;
 }
 
+/// The longest answer of a line, its LF among it.
+const LONGEST_ANSWER: usize = 117;
+
 type Function = unsafe extern "C" fn(*const u8, usize, *mut u8, usize) -> usize;
 
 /// The output buffer is too small. Nothing was written to it.
@@ -43,8 +46,9 @@ impl Error for TooSmall {}
 ///
 /// If the input is longer than 2^48 bytes.
 pub fn bill(input: &[u8]) -> Vec<u8> {
-    // A line of some length is answered by a frame of 61 bytes or little more.
-    whole(breccianest_bill, input, 64 + 4 * input.len())
+    // With room for the longest answers, one for each line, the input is worked once.
+    let ended = input.iter().filter(|&&character| character == b'\n').count();
+    whole(breccianest_bill, input, LONGEST_ANSWER.saturating_mul(ended + 1))
 }
 
 /// A line for each item that is open at the end of the input, oldest first.
@@ -79,14 +83,10 @@ fn into(function: Function, input: &[u8], output: &mut [u8]) -> Result<usize, To
     }
 }
 
-/// The output in a vector that at first has the room guessed.
-fn whole(function: Function, input: &[u8], guess: usize) -> Vec<u8> {
-    let mut output = vec![0; guess];
-    let size = into(function, input, &mut output).unwrap_or_else(|small| {
-        assert_ne!(small.needed, usize::MAX, "an input longer than 2^48 bytes");
-        output.resize(small.needed, 0);
-        into(function, input, &mut output).expect("the room that was asked for")
-    });
+/// The output in a vector, which has room for any output that the input may have.
+fn whole(function: Function, input: &[u8], room: usize) -> Vec<u8> {
+    let mut output = vec![0; room];
+    let size = into(function, input, &mut output).expect("an input of at most 2^48 bytes");
     output.truncate(size);
     output
 }
@@ -152,8 +152,7 @@ mod tests {
     }
 
     #[test]
-    fn more_output_than_guessed() {
-        // An empty line is one byte and its answer 61.
+    fn empty_lines() {
         assert_eq!(bill(&[b'\n'; 1000]), NO_FRAME.repeat(1000));
     }
 

@@ -15,9 +15,10 @@ use Rattle.ledger.specs.declared.Queue.{Queue}
 use Rattle.ledger.specs.Limits.{capacity, mostCredit}
 use Rattle.ledger.specs.Settling.{unpaidOf}
 use Rattle.ledger.specs.Posting.{Standing, standing, stored}
-use Rattle.ledger.specs.Entries.{asked, numberOf, next, interestPosted, Within}
+use Rattle.ledger.specs.Entries.{asked, numberOf, interestPosted, Within}
 use Rattle.ledger.specs.Numbers.{lying, Lies}
 use Rattle.ledger.proofs.Bounds.{standing-stored}
+use Rattle.ledger.proofs.Within.{number-passes}
 use Rattle.ledger.proofs.Queues.{part-count}
 use Rattle.plan.specs.declared.Head.{Head}
 use Rattle.plan.specs.declared.Call.{Call}
@@ -39,9 +40,9 @@ use Rattle.account.proofs.Working.{plan-works, quiet-says, asking-says}
 pub last-none : (ledger : Ledger) → ledger .count ≤ capacity → ledger .credit ≤ mostCredit → lastRefusal ledger ≡ 0
 last-none ledger few credit = rw (le-leb (ledger .count) capacity few, le-leb (ledger .credit) mostCredit credit) refl
 
--- An entry that is refused changes nothing.
-pub kept : (e : Entry) (s : Standing) → (numberOf (asked e s) ≡ 0 → ⊥) → next e s ≡ s
-kept e s z = rw (ne-eqb (numberOf (asked e s)) 0 z) refl
+-- An entry that is not refused leaves a place for every item.
+pub places-few : (e : Entry) (s : Standing) → numberOf (asked e s) ≡ 0 → length (asked e s .open-items) ≤ capacity
+places-few e s z = number-passes (length (asked e s .open-items)) (asked e s .credit) z .count-most
 
 -- A call on the account that lies there.
 module _ (h : Head) (estimates : Estimates) (s : Standing) (call : Call) where

@@ -16,10 +16,6 @@ use Rattle.account.specs.Whole.{whole}
 use Rattle.account.specs.Refusals.{lastRefusal, refusal}
 use Rattle.account.specs.Outcomes.{declined, accepted, concluded, outcome}
 
--- 12 and 13.
-pub places-left : (ledger : Ledger) → lastRefusal ledger ≡ 0 → ledger .count ≤ capacity
-places-left ledger e = leb-true (ledger .count) capacity (passes (itemsAllowed (ledger .count)) 11 (unless (creditAllowed (ledger .credit)) 13 0) e .0)
-
 pub concluded-accepted : (a : Account) (w : Work) → lastRefusal (w .account .ledger) ≡ 0 → concluded a w ≡ accepted w
 concluded-accepted a w e = rw (eq-eqb (lastRefusal (w .account .ledger)) 0 e) refl
 

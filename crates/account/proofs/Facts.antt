@@ -247,12 +247,6 @@ supplied-facts (Supplied start) a e w = w
 supplied-facts (Stopped stop) a e w = absurd (false≢true e)
 supplied-facts Cancelled a e w = absurd (false≢true e)
 
-pub stopped-facts : (status : Status) (a : Account) → isStopped status ≡ true → StatusFacts status a → Facts a
-stopped-facts New a e w = absurd (false≢true e)
-stopped-facts (Supplied start) a e w = absurd (false≢true e)
-stopped-facts (Stopped stop) a e w = w .1
-stopped-facts Cancelled a e w = absurd (false≢true e)
-
 pub not-new-facts : (status : Status) (a : Account) → not (isNew status) ≡ true → StatusFacts status a → Facts a
 not-new-facts New a e w = absurd (false≢true e)
 not-new-facts (Supplied start) a e w = w .1
@@ -264,9 +258,3 @@ new-facts New a e w = made-facts a w
 new-facts (Supplied start) a e w = absurd (false≢true e)
 new-facts (Stopped stop) a e w = absurd (false≢true e)
 new-facts Cancelled a e w = absurd (false≢true e)
-
-pub cancelled-facts : (status : Status) (a : Account) → isCancelled status ≡ true → StatusFacts status a → (a .ledger .held ≡ 0) × Facts a
-cancelled-facts New a e w = absurd (false≢true e)
-cancelled-facts (Supplied start) a e w = absurd (false≢true e)
-cancelled-facts (Stopped stop) a e w = absurd (false≢true e)
-cancelled-facts Cancelled a e w = w

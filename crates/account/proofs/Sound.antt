@@ -85,10 +85,6 @@ pub record Bounded (day : ℕ) (s : Standing) : Type 0 where
 pub held-most : (day : ℕ) (s : Standing) → Bounded day s → s .held ≤ 1000000000000
 held-most day s w = omega (arith, w .load-most)
 
-pub paid-sound : (day yen : ℕ) (s : Standing) → Every (ItemFacts day) (s .open-items) → Sound day (paid day yen s)
-unfolding paid
-paid-sound day yen s old = post-sound day yen [] s old tt
-
 pub paid-bounded : (day yen : ℕ) (s : Standing) → day ≤ 36494 → Bounded day s → Bounded day (paid day yen s)
 unfolding paid
 paid-bounded day yen s h w =

@@ -38,11 +38,6 @@ closing-asked : (day : ℕ) (net : ℤ) (posts : Bool) (s : Standing)
 unfolding asked taken closed
 closing-asked day net posts s = refl
 
-closing-taken : (day : ℕ) (net : ℤ) (posts : Bool) (s : Standing)
-    → taken (record { day = day; money = creditOf net; closes = true; charge = chargeOf net; posts = posts }) s ≡ closed day net s
-unfolding taken closed
-closing-taken day net posts s = refl
-
 module _ (a : Account) where
   abbrev workBy : Plan → List ℕ → Work
   workBy p final = workOf p final (a .estimates) (a .ledger)
@@ -119,11 +114,3 @@ module _ (p : Plan) (final : List ℕ) (estimates : Estimates) (ledger : Ledger)
 
   pub asking-says : p .asks ≡ true → worksBy true ≡ workOf p final estimates ledger
   asking-says f = sym (ap worksBy f)
-
--- An entry that is not refused.
-module _ (e : Entry) (s : Standing) (z : numberOf (asked e s) ≡ 0) where
-  pub next-asked : next e s ≡ asked e s
-  next-asked = rw (eq-eqb (numberOf (asked e s)) 0 z) refl
-
-  pub places-few : length (asked e s .open-items) ≤ capacity
-  places-few = number-passes (length (asked e s .open-items)) (asked e s .credit) z .count-most

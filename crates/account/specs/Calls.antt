@@ -6,6 +6,7 @@ use lib.IntN.{ℤ, pos}
 use Rattle.tariff.specs.declared.Fuel.{Fuel}
 use Rattle.tariff.specs.Price.{priceOf}
 use Rattle.meter.specs.declared.Estimate.{Estimate}
+use Rattle.meter.specs.declared.Estimates.{Estimates}
 use Rattle.meter.specs.declared.Meter.{Meter}
 use Rattle.meter.specs.Metering.{poolTo, setOn, exchangedFor, readAt, missedAt}
 use Rattle.meter.specs.Sharing as Sharing
@@ -35,14 +36,17 @@ newAccount =
 abbrev pub headOf : Account → Head
 headOf a = record { status = a .status; latest = a .latest; meter = a .meter; standing = a .estimates .count }
 
--- The account with another meter, or another ledger, on this day.
+-- The account behind a call of this day.
+abbrev pub accountOn : Account → ℕ → Status → Meter → Estimates → Ledger → Account
+accountOn a day status meter estimates ledger =
+    record { status = status; latest = day; meter = meter; estimates = estimates; ledger = ledger }
+
+-- with another meter, or another ledger
 abbrev pub withMeter : Account → ℕ → Status → Meter → Account
-withMeter a day status meter =
-    record { status = status; latest = day; meter = meter; estimates = a .estimates; ledger = a .ledger }
+withMeter a day status meter = accountOn a day status meter (a .estimates) (a .ledger)
 
 abbrev pub withLedger : Account → ℕ → Status → Ledger → Account
-withLedger a day status ledger =
-    record { status = status; latest = day; meter = a .meter; estimates = a .estimates; ledger = ledger }
+withLedger a day status ledger = accountOn a day status (a .meter) (a .estimates) ledger
 
 -- What a call makes: the account after it, the estimated volume, the volumes made final, the net, and interest posted.
 pub record Work : Type 0 where
@@ -75,14 +79,7 @@ module _ (a : Account) (day reading : ℕ) (fuel : Fuel) where
 
   -- All volumes are final, so no estimate stands and the pool is 0.
   abbrev pub afterReading : Status → Ledger → Account
-  afterReading status ledger =
-      record {
-        status = status;
-        latest = day;
-        meter = readAt (a .meter) reading (ofThisPeriod madeFinal);
-        estimates = storedEstimates [];
-        ledger = ledger;
-      }
+  afterReading status ledger = accountOn a day status (readAt (a .meter) reading (ofThisPeriod madeFinal)) (storedEstimates []) ledger
 
   -- A closing posts interest held.
   abbrev pub read : Status → Work
@@ -122,13 +119,9 @@ module _ (a : Account) (day : ℕ) (fuel : Fuel) where
   missed absent volume =
       record {
         account =
-            record {
-              status = Supplied (dayAfter day);
-              latest = day;
-              meter = missedAt (a .meter) volume;
-              estimates = storedEstimates (standingEstimates a ++ (estimateOf absent volume ∷ []));
-              ledger = stored (closed day (pos (estimateOf absent volume .charged)) (standing (a .ledger)));
-            };
+            accountOn a day (Supplied (dayAfter day)) (missedAt (a .meter) volume)
+            (storedEstimates (standingEstimates a ++ (estimateOf absent volume ∷ [])))
+            (stored (closed day (pos (estimateOf absent volume .charged)) (standing (a .ledger))));
         estimated = volume;
         volumes = [];
         net = pos (estimateOf absent volume .charged);

@@ -17,11 +17,6 @@ standing-stored s h =
     let all : take capacity (s .open-items) ≡ s .open-items = take-all capacity (s .open-items) h in
     rw all (λ i. record { open-items = take-pad blank capacity (s .open-items) i; credit = s .credit; held = s .held })
 
--- The bounds of what is stored are those of its items.
-pub stored-bounds : (s : Standing) → Every ItemBounds (s .open-items) → length (s .open-items) ≤ capacity → OpenBounds (stored s)
-stored-bounds s w h =
-    record { count-most = h; items-within = subst (λ (x : Standing). Every ItemBounds (x .open-items)) (sym (standing-stored s h)) w }
-
 module _ (ledger : Ledger) (w : OpenBounds ledger) (long : length (ledger .items) ≡ capacity) where
   open-count : length (take (ledger .count) (ledger .items)) ≡ ledger .count
   open-count = length-take-le (ledger .count) (ledger .items) (omega (arith, w .count-most))

@@ -109,11 +109,6 @@ pub entered-owing : (kind : Kind) (day amount : ℕ) → Owing (entered kind day
 entered-owing kind day amount =
     ⊎-elim (λ (e : amount ≡ 0). rw (entered-none kind day amount e) tt) (λ (l : 0 < amount). rw (entered-some kind day amount l) (l, tt)) (eq-zero-or-pos amount)
 
--- A posting opens no more items than it posts.
-pub post-count : (day money : ℕ) (items : List Item) (s : Standing) → length (post day money items s .open-items) ≤ length (s .open-items) + length items
-unfolding post
-post-count day money items s = omega (arith, open-most day (s .credit + money) (s .open-items ++ items), length-append (s .open-items) items)
-
 pub entered-count : (kind : Kind) (day amount : ℕ) → length (entered kind day amount) ≤ 1
 entered-count kind day amount =
     ⊎-elim (λ (e : amount ≡ 0). rw (entered-none kind day amount e) (omega arith)) (λ (l : 0 < amount). rw (entered-some kind day amount l) (le-refl 1)) (eq-zero-or-pos amount)

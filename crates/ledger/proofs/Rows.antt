@@ -9,6 +9,7 @@ use lib.Dec.{ltb}
 use lib.ListN.{length, getD, set, take, drop, length-drop}
 use lib.Seq.{set-getD, set-at, getD-append-add, length-take-le, take-suc, drop-cons, getD-drop, append-snoc}
 use borrow.Author.Tests.{lt-ltb, le-ltb}
+use Rattle.lists.proofs.Pad.{fill-next}
 use Rattle.ledger.specs.Limits.{lanePlaces}
 use Rattle.ledger.specs.declared.Kind.{Kind}
 use Rattle.ledger.specs.declared.Kind.the-variants.{Interest, Price}
@@ -74,15 +75,8 @@ set-rows (suc n) zero (p ∷ us) (q ∷ bs) (r ∷ ls) x y z u b l = refl
 set-rows (suc n) (suc i) (p ∷ us) (q ∷ bs) (r ∷ ls) x y z u b l =
     ap (λ items. itemOf p q r ∷ items) (set-rows n i us bs ls x y z (suc-inj u) (suc-inj b) (suc-inj l))
 
--- A list whose front is filled, element by element.
+-- Behind the front of a list that is filled, element by element, it is as it was.
 module _ {A : Type 0} (front rest : List A) (d : A) where
-  pub fill-next : (i : ℕ) → i < length front → length front ≤ length rest
-      → set (take i front ++ drop i rest) i (getD front i d) ≡ take (suc i) front ++ drop (suc i) rest
-  fill-next i h long =
-      rw (drop-cons rest i d (omega arith), take-suc front i d h, append-snoc (take i front) (getD front i d) (drop (suc i) rest))
-      (set-at (take i front) (getD rest i d) (drop (suc i) rest) (getD front i d) i (length-take-le i front (omega arith)))
-
-  -- behind what is filled, the list is as it was
   fill-behind : (i j : ℕ) → i ≤ length front → getD (take i front ++ drop i rest) (i + j) d ≡ getD rest (i + j) d
   fill-behind i j h =
       rw (← getD-drop i rest j d)

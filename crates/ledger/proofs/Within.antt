@@ -22,39 +22,6 @@ use Rattle.ledger.proofs.Interest.{interest-most}
 use Rattle.ledger.proofs.Settling.{settle-keeps, arisen-most}
 use Rattle.ledger.proofs.Posting.{Owing, entered-none, entered-some}
 
-reduced-bounds : (item : Item) (money : ℕ) → ItemBounds item → money < item .unpaid → ItemBounds (reduced item money)
-reduced-bounds item money w h =
-    record { unpaid-least = omega arith; unpaid-most = omega (arith, w .unpaid-most); price-most = w .price-most }
-
-pub entered-bounds : (kind : Kind) (day amount : ℕ) → (isPrice kind ≡ true → amount ≤ mostPrice) → amount ≤ mostInterest
-    → Every ItemBounds (entered kind day amount)
-entered-bounds kind day amount price most =
-    ⊎-elim (λ (e : amount ≡ 0). rw (entered-none kind day amount e) tt)
-    (λ (l : 0 < amount).
-    rw (entered-some kind day amount l) (record { unpaid-least = l; unpaid-most = most; price-most = price }, tt))
-    (eq-zero-or-pos amount)
-
-pub post-bounds : (day money : ℕ) (items : List Item) (s : Standing) → Every ItemBounds (s .open-items) → Every ItemBounds items
-    → Every ItemBounds (post day money items s .open-items)
-unfolding post
-post-bounds day money items s old new =
-    settle-keeps ItemBounds reduced-bounds day (s .credit + money) (s .open-items ++ items)
-    (every-append ItemBounds (s .open-items) items old new)
-
--- Interest held is bounded with the places of the open items: each item settled brings at most so much, and frees its place.
-abbrev pub load : Standing → ℕ
-load s = s .held + length (s .open-items) * mostArisen
-
-pub post-load : (day money : ℕ) (items : List Item) (s : Standing) → day ≤ lastCallDay → Every ItemBounds (s .open-items)
-    → Every ItemBounds items → load (post day money items s) ≤ load s + length items * mostArisen
-unfolding post
-post-load day money items s h old new =
-    let all = s .open-items ++ items in
-    let bounds : Every ItemBounds all = every-append ItemBounds (s .open-items) items old new in
-    let each : Every (λ item. interestOn item day ≤ mostArisen) all =
-    every-map ItemBounds (λ item. interestOn item day ≤ mostArisen) (λ item w. interest-most item day (w .price-most) h) all bounds in
-    omega (arith, arisen-most mostArisen day (s .credit + money) all each, length-append (s .open-items) items)
-
 pub owing : (items : List Item) → Every ItemBounds items → Owing items
 owing items w = every-map ItemBounds (λ item. 1 ≤ item .unpaid) (λ item b. b .unpaid-least) items w
 

@@ -103,11 +103,6 @@ pub record OpenBounds (ledger : Ledger) : Type 0 where
   pub count-most : ledger .count ≤ capacity
   pub items-within : Every ItemBounds (take (ledger .count) (ledger .items))
 
-pub record LedgerBounds (ledger : Ledger) : Type 0 where
-  pub open-bounds : OpenBounds ledger
-  pub held-most : ledger .held ≤ mostInterest
-  pub credit-most : ledger .credit ≤ 1000000000
-
 -- A net that no closing exceeds.
 abbrev pub NetBounds : ℤ → Type 0
 NetBounds net = (chargeOf net ≤ mostPrice) × (creditOf net ≤ mostMoney)

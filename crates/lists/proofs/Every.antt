@@ -54,12 +54,6 @@ module _ {A : Type 0} (test : A → Bool) where
       let both = and-eq-true-iff (test x) (every test (take i xs)) .0 front in
       and-eq-true-iff (test x) (every test (take (suc i) xs)) .1 (both .0, every-next xs i d (le-of-suc-le-suc h) (both .1) e)
 
-  pub every-holds : (xs : List A) (n i : ℕ) (d : A) → i < n → i < length xs → every test (take n xs) ≡ true → test (getD xs i d) ≡ true
-  every-holds [] n i d l h e = absurd (not-suc-le-zero h)
-  every-holds (x ∷ xs) zero i d l h e = absurd (not-suc-le-zero l)
-  every-holds (x ∷ xs) (suc n) zero d l h e = and-eq-true-iff (test x) (every test (take n xs)) .0 e .0
-  every-holds (x ∷ xs) (suc n) (suc i) d l h e = every-holds xs n i d (le-of-suc-le-suc l) (le-of-suc-le-suc h) (and-eq-true-iff (test x) (every test (take n xs)) .0 e .1)
-
   pub every-fails : (xs : List A) (n i : ℕ) (d : A) → i < n → i < length xs → test (getD xs i d) ≡ false → every test (take n xs) ≡ false
   every-fails [] n i d l h e = absurd (not-suc-le-zero h)
   every-fails (x ∷ xs) zero i d l h e = absurd (not-suc-le-zero l)

@@ -59,21 +59,6 @@ drop-take (suc n) zero xs = ap (λ k. take k (drop (suc n) xs)) (sym (zero-sub (
 drop-take (suc n) (suc m) [] = sym (take-nil (suc m - suc n))
 drop-take (suc n) (suc m) (x ∷ xs) = drop-take n m xs ∙ ap (λ k. take k (drop n xs)) (sym (suc-sub-suc m n))
 
--- One more element behind a list of which an array holds the front: it is stored where there is room, and else left out.
-pub pad-push : {A : Type 0} (blank : A) (size : ℕ) (xs : List A) (x : A) → set (pad size blank (take size xs)) (length xs) x ≡ pad size blank (take size (xs ++ (x ∷ [])))
-pad-push blank size xs x = go (leb size (length xs)) refl
-  where
-    go : (full : Bool) → leb size (length xs) ≡ full → set (pad size blank (take size xs)) (length xs) x ≡ pad size blank (take size (xs ++ (x ∷ [])))
-    go true e =
-        let h : size ≤ length xs = leb-true size (length xs) e in
-        let long : length (pad size blank (take size xs)) ≡ size = length-pad blank size (take size xs) (omega (arith, length-take-le size xs h)) in
-        set-out (pad size blank (take size xs)) (length xs) x (omega arith) ∙ ap (pad size blank) (sym (take-append-le size xs (x ∷ []) h))
-    go false e =
-        let h : length xs < size = leb-false size (length xs) e in
-        let all : take size xs ≡ xs = take-all size xs (le-of-lt h) in
-        let more : take size (xs ++ (x ∷ [])) ≡ xs ++ (x ∷ []) = take-all size (xs ++ (x ∷ [])) (rw (length-append xs (x ∷ [])) (omega arith)) in
-        rw (all, more) (pad-store blank size (length xs) xs x refl h)
-
 pub length-take-most : {A : Type 0} (n : ℕ) (xs : List A) → length (take n xs) ≤ n
 length-take-most zero xs = omega arith
 length-take-most (suc n) [] = omega arith

@@ -103,21 +103,22 @@ plannedAs number passed h = cond (eqb number 0) passed (quietPlan number h)
 abbrev pub volumesAs : ℕ → List ℕ → List ℕ
 volumesAs number volumes = cond (eqb number 0) volumes []
 
-abbrev pub headOn : Head → Status → ℕ → Meter → Head
-headOn h status day meter = record { status = status; latest = day; meter = meter; standing = h .standing }
+-- The head behind a call of this day.
+abbrev pub headOn : Head → Status → ℕ → Meter → ℕ → Head
+headOn h status day meter standing = record { status = status; latest = day; meter = meter; standing = standing }
 
 -- 01 and 07.
 abbrev pub begunPlan : Head → ℕ → ℕ → ℕ → ℕ → Plan
-begunPlan h day reading digits start = quietPlan 0 (headOn h (Supplied start) day (setOn (h .meter) digits reading))
+begunPlan h day reading digits start = quietPlan 0 (headOn h (Supplied start) day (setOn (h .meter) digits reading) (h .standing))
 
 -- 05.
 abbrev pub exchangedPlan : Head → ℕ → ℕ → ℕ → ℕ → Plan
-exchangedPlan h day old new digits = quietPlan 0 (headOn h (h .status) day (exchangedFor (h .meter) old new digits))
+exchangedPlan h day old new digits = quietPlan 0 (headOn h (h .status) day (exchangedFor (h .meter) old new digits) (h .standing))
 
 -- 09 and 0a: what they ask of the ledger, and no more.
 abbrev pub askingPlan : Head → Status → Entry → Plan
 askingPlan h status entry =
-    record { number = 0; head = headOn h status (entry .day) (h .meter); change = Kept; asks = true; entry = entry; estimated = 0; count = 0; net = pos 0 }
+    record { number = 0; head = headOn h status (entry .day) (h .meter) (h .standing); change = Kept; asks = true; entry = entry; estimated = 0; count = 0; net = pos 0 }
 
 abbrev pub moneyEntry : ℕ → ℕ → Bool → Entry
 moneyEntry day money posts = record { day = day; money = money; closes = false; charge = 0; posts = posts }
@@ -140,8 +141,7 @@ module _ (h : Head) (day : ℕ) (fuel : Fuel) (absent : Bool) (volume : ℕ) whe
   missPlan =
       record {
         number = 0;
-        head =
-            record { status = Supplied (dayAfter day); latest = day; meter = missedAt (h .meter) volume; standing = h .standing + 1 };
+        head = headOn h (Supplied (dayAfter day)) day (missedAt (h .meter) volume) (h .standing + 1);
         change =
             Added
             (record { absent = absent; days = daysOf (startOf (h .status)) day; fuel = fuel; volume = volume; charged = missCharge });
@@ -176,7 +176,7 @@ abbrev pub figuredPlan : Head → ℕ → ℕ → Then → Figures → Plan
 figuredPlan h day reading next f =
     record {
       number = 0;
-      head = record { status = statusAfter next day; latest = day; meter = readAt (h .meter) reading (f .volume); standing = 0 };
+      head = headOn h (statusAfter next day) day (readAt (h .meter) reading (f .volume)) 0;
       change = Cleared;
       asks = true;
       entry = record { day = day; money = creditOf (f .net); closes = true; charge = chargeOf (f .net); posts = ends next };

@@ -267,10 +267,9 @@ fn begin_period(head: Head, day: u16, reading: u32, digits: u8, start: u16) -> P
             meter: Meter {
                 digits,
                 dial: reading,
-                pool: meter.pool,
-                previous: meter.previous,
+                ..meter
             },
-            standing: head.standing,
+            ..head
         },
     )
 }
@@ -280,7 +279,6 @@ fn plan_exchange(head: Head, day: u16, old: u32, new: u32, digits: u8) -> Plan
     requires { ⌜ HeadBounds head ⌝ }
     ensures { λ r. ⌜ r ≡ plannedAs (exchangeRefusal head day old new digits) (exchangedPlan head day old new digits) head ⌝ }
 {
-    let status = head.status;
     let meter = head.meter;
     let number = exchange_refusal(head, day, old, new, digits);
     if number != 0 {
@@ -290,15 +288,14 @@ fn plan_exchange(head: Head, day: u16, old: u32, new: u32, digits: u8) -> Plan
     quiet(
         0,
         Head {
-            status,
             latest: day,
             meter: Meter {
                 digits,
                 dial: new,
                 pool,
-                previous: meter.previous,
+                ..meter
             },
-            standing: head.standing,
+            ..head
         },
     )
 }
@@ -361,14 +358,12 @@ fn held_entry(day: u16) -> Entry
 fn asking(head: Head, status: Status, entry: Entry) -> Plan
     ensures { λ r. ⌜ r ≡ askingPlan head status entry ⌝ }
 {
-    let meter = head.meter;
     Plan {
         number: 0,
         head: Head {
             status,
             latest: entry.day,
-            meter,
-            standing: head.standing,
+            ..head
         },
         change: Change::Kept,
         asks: true,
@@ -415,12 +410,11 @@ fn estimate_period(head: Head, day: u16, fuel: Fuel, absent: bool, volume: u32) 
             status: Status::Supplied { start: day + 1 },
             latest: day,
             meter: Meter {
-                digits: meter.digits,
-                dial: meter.dial,
-                pool: meter.pool,
                 previous: volume,
+                ..meter
             },
             standing: head.standing + 1,
+            ..head
         },
         change: Change::Added {
             estimate: Estimate {
@@ -497,12 +491,13 @@ fn after_reading(head: Head, day: u16, reading: u32, then: Then, figures: Figure
             status: status_after(then, day),
             latest: day,
             meter: Meter {
-                digits: meter.digits,
                 dial: reading,
                 pool: 0,
                 previous: figures.volume,
+                ..meter
             },
             standing: 0,
+            ..head
         },
         change: Change::Cleared,
         asks: true,

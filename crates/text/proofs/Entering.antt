@@ -19,7 +19,7 @@ use Rattle.ledger.specs.Limits.{capacity, mostEnd}
 use Rattle.ledger.specs.Posting.{Standing, stored, blank}
 use Rattle.ledger.specs.Entries.{asked, numberOf, interestPosted, EntryBounds, Within}
 use Rattle.ledger.specs.Numbers.{lying, Lies, Fit}
-use Rattle.ledger.proofs.Queues.{part-count, Spread, spread-stands, spread-fits, gathered-is}
+use Rattle.ledger.proofs.Queues.{part-count, next-asked, next-same, Spread, spread-stands, spread-fits, gathered-is}
 use Rattle.plan.specs.declared.Call.{Call}
 use Rattle.plan.specs.declared.Head.{Head}
 use Rattle.plan.specs.declared.Plan.{Plan}
@@ -40,8 +40,7 @@ use Rattle.account.specs.Whole.{whole}
 use Rattle.account.specs.Works.{accountOf}
 use Rattle.account.proofs.Concluding.{outcome-declined}
 use Rattle.account.proofs.Ready.{head-bounds, count-most, whole-within, misses-most, estimates-within, whole-lying}
-use Rattle.account.proofs.Working.{next-asked}
-use Rattle.account.proofs.Carrying.{kept, made, Goes, goes, outcome-quiet, outcome-asked, outcome-refused}
+use Rattle.account.proofs.Carrying.{made, Goes, goes, outcome-quiet, outcome-asked, outcome-refused}
 use Rattle.wire.specs.Answers.{acceptance}
 use Rattle.wire.specs.declared.Parsed.{Parsed}
 use Rattle.wire.specs.declared.Parsed.the-variants.{Frame, NotAFrame}
@@ -200,7 +199,7 @@ module _ {items after : List Item} {q : Queue} {h : Head} {estimates : Estimates
           let done = enters .asked none asks in
           let some = eqb-false (r .number) 0 e in
           let is = outcome-refused h estimates s call first fit (lain-whole l) (lain-within l) (sym asks-is ∙ asks) (r .number) (done .number-is ∙ ap (λ (x : Plan). numberOf (asked (x .entry) s)) passed) some in
-          declined-comes (outcome a call) some is (done .stands ∙ kept (p .entry) s (λ z. some (done .number-is ∙ z))) (done .lies) (done .room)
+          declined-comes (outcome a call) some is (done .stands ∙ next-same (p .entry) s (λ z. some (done .number-is ∙ z))) (done .lies) (done .room)
 
     call-comes : (b : Bool) → eqb (p .number) 0 ≡ b → (c : Bool) → p .asks ≡ c → Comes after h estimates p r volumes (outcome a call)
     call-comes true e true f = asked-comes (eqb-true (p .number) 0 e) f (eqb (r .number) 0) refl

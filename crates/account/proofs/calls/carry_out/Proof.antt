@@ -10,6 +10,7 @@ use Rattle.ledger.specs.Settling.{unpaidOf}
 use Rattle.ledger.specs.Posting.{Standing, standing, stored}
 use Rattle.ledger.specs.Entries.{asked, numberOf, next}
 use Rattle.ledger.proofs.Bounds.{standing-stored}
+use Rattle.ledger.proofs.Queues.{next-asked}
 use Rattle.plan.specs.Plans.{changed}
 use Rattle.account.specs.declared.Account.{Account}
 use Rattle.account.specs.declared.Answer.{Answer}
@@ -19,8 +20,8 @@ use Rattle.account.specs.Outcomes.{accepted}
 use Rattle.account.specs.Works.{accountOf, workOf}
 use Rattle.account.proofs.Concluding.{concluded-accepted, concluded-declined}
 use Rattle.account.proofs.Ready.{count-most, whole-within, open-bounds}
-use Rattle.account.proofs.Working.{quiet-says, asking-says, next-asked, places-few}
-use Rattle.account.proofs.Carrying.{last-none}
+use Rattle.account.proofs.Working.{quiet-says, asking-says}
+use Rattle.account.proofs.Carrying.{last-none, places-few}
 use Rattle.account.proofs.calls.carry_out.Statement.{statement}
 use Rattle.account.proofs.calls.carry_out.Tie as tie
 

@@ -12,7 +12,8 @@ use Rattle.ledger.specs.declared.Item.{Item}
 use Rattle.ledger.specs.Limits.{capacity}
 use Rattle.ledger.specs.Posting.{blank}
 use Rattle.ledger.specs.Lanes.{rows, Long}
-use Rattle.ledger.proofs.Rows.{rows-long, fill-next}
+use Rattle.lists.proofs.Pad.{fill-next}
+use Rattle.ledger.proofs.Rows.{rows-long}
 use Rattle.ledger.proofs.lanes.spread.Statement.{statement}
 use Rattle.ledger.proofs.lanes.spread.Tie as tie
 

@@ -1,6 +1,7 @@
 use mathlib.Core.Path.{_≡_, sym, ap, _∙_}
 use Prim.Native.Nat.{ℕ}
 use borrow.Author.Needs.{needs}
+use Rattle.meter.specs.Metering.{with}
 use Rattle.plan.specs.declared.Plan.{Plan}
 use Rattle.plan.specs.Plans.{quietPlan, headOn}
 use Rattle.plan.proofs.Ready.{ExchangeReady, exchange-ready}
@@ -27,7 +28,7 @@ returns-2 c =
     let one : tie.Else1 = search in
     let s = d .before .before .args in
     let h = s .head in
-    let pooled : ℕ → Plan = λ pool. quietPlan 0 (headOn h (h .status) (s .day) (record { digits = s .digits; dial = s .new; pool = pool; previous = h .meter .previous })) in
+    let pooled : ℕ → Plan = λ pool. quietPlan 0 (headOn h (h .status) (s .day) (with (h .meter) (s .digits) (s .new) pool (h .meter .previous)) (h .standing)) in
     c .quiet2 .ensures ∙ ap pooled (c .before .pool-to .ensures) ∙ plan-passed (d .exchange-refusal .ensures) (one .if1 .left) _ _
 
 pub plan-exchange-spec : {M : Type 1} → statement M
