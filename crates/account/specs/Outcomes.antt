@@ -1,10 +1,9 @@
 -- What a call hands back: the account and the answer.
-use mathlib.Core.Path.{_≡_}
 use mathlib.Core.Bool.{cond}
 use mathlib.Core.List.{List, []}
 use Prim.Native.Nat.{ℕ}
 use lib.Dec.{eqb}
-use lib.IntN.{pos}
+use lib.IntN.{ℤ, pos}
 use Rattle.meter.specs.Sharing.{volumesOf}
 use Rattle.ledger.specs.Settling.{unpaidOf}
 use Rattle.ledger.specs.Posting.{standing}
@@ -15,30 +14,35 @@ use Rattle.plan.specs.declared.Call.{Call}
 use Rattle.account.specs.Calls.{Work, work}
 use Rattle.account.specs.Refusals.{lastRefusal, refusal}
 
--- A declined call: its number, every other field 0, the account as it was.
-abbrev pub declined : Account → ℕ → Outcome
-declined a number =
+-- The answer of an accepted call: number 0, what it worked out, what is unpaid over all open items and the credit after it.
+abbrev pub acceptance : ℕ → List ℕ → ℤ → ℕ → ℕ → ℕ → Answer
+acceptance estimated volumes net interest unpaid credit =
     record {
-      account = a;
-      answer = record { number = number; estimated = 0; volumes = volumesOf []; net = pos 0; interest = 0; unpaid = 0; credit = 0 };
+      number = 0;
+      estimated = estimated;
+      volumes = volumesOf volumes;
+      net = net;
+      interest = interest;
+      unpaid = unpaid;
+      credit = credit;
     }
 
--- An accepted call: number 0, what it worked out, and what is unpaid over all open items and the credit after it.
 abbrev pub accepted : Work → Outcome
 accepted w =
     record {
       account = w .account;
       answer =
-          record {
-            number = 0;
-            estimated = w .estimated;
-            volumes = volumesOf (w .volumes);
-            net = w .net;
-            interest = w .interest;
-            unpaid = unpaidOf (standing (w .account .ledger) .open-items);
-            credit = w .account .ledger .credit;
-          };
+          acceptance (w .estimated) (w .volumes) (w .net) (w .interest) (unpaidOf (standing (w .account .ledger) .open-items))
+          (w .account .ledger .credit);
     }
+
+-- A declined call: its number, every other field 0, the account as it was.
+abbrev pub declining : ℕ → Answer
+declining number =
+    record { number = number; estimated = 0; volumes = volumesOf []; net = pos 0; interest = 0; unpaid = 0; credit = 0 }
+
+abbrev pub declined : Account → ℕ → Outcome
+declined a number = record { account = a; answer = declining number }
 
 unfoldable pub outcome : Account → Call → Outcome
 outcome a call = cond (eqb (refusal a call) 0) (accepted (work a call)) (declined a (refusal a call))

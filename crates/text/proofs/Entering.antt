@@ -35,13 +35,12 @@ use Rattle.account.specs.declared.Account.{Account}
 use Rattle.account.specs.declared.Answer.{Answer}
 use Rattle.account.specs.declared.Outcome.{Outcome}
 use Rattle.account.specs.Calls.{headOf}
-use Rattle.account.specs.Outcomes.{accepted, declined, outcome}
+use Rattle.account.specs.Outcomes.{acceptance, accepted, declined, outcome}
 use Rattle.account.specs.Whole.{whole}
 use Rattle.account.specs.Works.{accountOf}
 use Rattle.account.proofs.Concluding.{outcome-declined}
 use Rattle.account.proofs.Ready.{head-bounds, count-most, whole-within, misses-most, estimates-within, whole-lying}
 use Rattle.account.proofs.Carrying.{made, Goes, goes, outcome-quiet, outcome-asked, outcome-refused}
-use Rattle.wire.specs.Answers.{acceptance}
 use Rattle.wire.specs.declared.Parsed.{Parsed}
 use Rattle.wire.specs.declared.Parsed.the-variants.{Frame, NotAFrame}
 use Rattle.text.specs.Output.{parsedOutcome}

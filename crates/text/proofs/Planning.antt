@@ -14,7 +14,7 @@ use Rattle.plan.specs.declared.Head.{Head}
 use Rattle.plan.specs.declared.Plan.{Plan}
 use Rattle.wire.specs.declared.Fields.{Fields}
 use Rattle.wire.specs.Numbers.{callOf, parsedBy}
-use Rattle.wire.specs.Answers.{acceptance, refusal}
+use Rattle.account.specs.Outcomes.{acceptance, declining}
 use Rattle.wire.specs.declared.Parsed.the-variants.{Frame, NotAFrame}
 use Rattle.text.specs.Working.{LooksBack, PlanOf, answerOf}
 
@@ -43,7 +43,7 @@ planned-over h estimates f looks before {after} {r} is shown =
 
 -- What is answered.
 module _ (r : Entered) (p : Plan) (volumes : List ℕ) where
-  pub answer-refused : (r .number ≡ 0 → ⊥) → answerOf r p volumes ≡ refusal (r .number)
+  pub answer-refused : (r .number ≡ 0 → ⊥) → answerOf r p volumes ≡ declining (r .number)
   answer-refused n = rw (ne-eqb (r .number) 0 n) refl
 
   pub answer-accepted : r .number ≡ 0 → answerOf r p volumes ≡ acceptance (p .estimated) (take (p .count) volumes) (p .net) (r .interest) (r .queue .owed) (r .queue .credit)

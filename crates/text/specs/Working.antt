@@ -24,7 +24,7 @@ use Rattle.account.specs.Works.{accountOf}
 use Rattle.plan.specs.Plans.{quietPlan, planned, plannedVolumes, filledWith, reads}
 use Rattle.wire.specs.declared.Fields.{Fields}
 use Rattle.wire.specs.Numbers.{callOf, parsedBy}
-use Rattle.wire.specs.Answers.{acceptance, refusal}
+use Rattle.account.specs.Outcomes.{acceptance, declining}
 use Rattle.wire.specs.declared.Parsed.{Parsed}
 use Rattle.wire.specs.declared.Parsed.the-variants.{Frame, NotAFrame}
 use Rattle.text.specs.declared.Went.{Went}
@@ -75,7 +75,7 @@ abbrev pub answerOf : Entered → Plan → List ℕ → Answer
 answerOf r p volumes =
     cond (eqb (r .number) 0)
     (acceptance (p .estimated) (take (p .count) volumes) (p .net) (r .interest) (r .queue .owed) (r .queue .credit))
-    (refusal (r .number))
+    (declining (r .number))
 
 -- What a run of lines leaves, as a state.
 abbrev pub stateIn : List Item → List ℕ → Went → State

@@ -276,7 +276,7 @@ fn unasked(number: u8, queue: Queue) -> Entered
     }
 }
 
-// The head behind a line. Field by field, so that the compiler keeps the plan out of memory.
+// The head behind a line. It is made anew, though it is the plan's, so that the compiler keeps the plan out of memory.
 fn head_after(number: u8, plan: Plan, head: Head) -> Head
     ensures { λ r. ⌜ r ≡ headAfter number plan head ⌝ }
 {
@@ -284,18 +284,14 @@ fn head_after(number: u8, plan: Plan, head: Head) -> Head
         return head;
     }
     let next = plan.head;
-    let status = next.status;
     let meter = next.meter;
     Head {
-        status,
         latest: next.latest,
         meter: Meter {
-            digits: meter.digits,
             dial: meter.dial,
-            pool: meter.pool,
-            previous: meter.previous,
+            ..meter
         },
-        standing: next.standing,
+        ..next
     }
 }
 

@@ -16,7 +16,8 @@ use mir.Facts.{toZ-pos}
 use borrow.Author.Tests.{ltb-true}
 use Rattle.lists.specs.Pad.{pad}
 use Rattle.lists.proofs.Pad.{take-pad}
-use Rattle.wire.specs.Answers.{lineFeed, twosComplement, volumesBytes, headBytes, amountsBytes, answerOf, acceptance, answerLine}
+use Rattle.wire.specs.Answers.{lineFeed, twosComplement, volumesBytes, headBytes, amountsBytes, answerOf, answerLine}
+use Rattle.account.specs.Outcomes.{acceptance}
 
 -- A net below zero: its bits, turned round.
 pub record Turned (net : ℤ) : Type 0 where

@@ -8,7 +8,8 @@ use native.Mathlib.Omega.{arith}
 use lib.ListN.{length, getD, set, replicate, length-set}
 use lib.Seq.{getD-set-same, getD-set-other}
 use Rattle.wire.specs.Digits.{glyph, digits}
-use Rattle.wire.specs.Answers.{refusal, answerLine}
+use Rattle.wire.specs.Answers.{answerLine}
+use Rattle.account.specs.Outcomes.{declining}
 
 -- Two digits are a byte's.
 pub two-digits : (n : ℕ) → digits 16 2 n ≡ glyph (n % 256 / 16) ∷ glyph (n % 256 % 16) ∷ []
@@ -42,11 +43,11 @@ sixteen-digits n = rw eight refl
     eight = omega arith
 
 -- The line of a declined call.
-pub refusal-line : (n : ℕ) → answerLine (refusal n) ≡ digits 16 2 n ++ replicate 58 48 ++ (10 ∷ [])
+pub refusal-line : (n : ℕ) → answerLine (declining n) ≡ digits 16 2 n ++ replicate 58 48 ++ (10 ∷ [])
 unfolding answerLine digits
 refusal-line n = refl
 
-pub refusal-length : (n : ℕ) → length (answerLine (refusal n)) ≡ 61
+pub refusal-length : (n : ℕ) → length (answerLine (declining n)) ≡ 61
 unfolding answerLine digits
 refusal-length n = refl
 

@@ -24,16 +24,6 @@ answerOf number estimated count volumes net interest unpaid credit =
       credit = credit;
     }
 
--- The answer to a call that is accepted.
-abbrev pub acceptance : ℕ → List ℕ → ℤ → ℕ → ℕ → ℕ → Answer
-acceptance estimated volumes net interest unpaid credit =
-    record { number = 0; estimated = estimated; volumes = volumesOf volumes; net = net; interest = interest; unpaid = unpaid; credit = credit }
-
--- The answer to a call that is declined: all but its number is 0.
-abbrev pub refusal : ℕ → Answer
-refusal number =
-    record { number = number; estimated = 0; volumes = volumesOf []; net = pos 0; interest = 0; unpaid = 0; credit = 0 }
-
 -- Two's complement in 4 bytes.
 abbrev pub twosComplement : ℤ → ℕ
 twosComplement (pos n) = n

@@ -4,7 +4,8 @@ ghost use Prim.Native.Nat.{_+_, _≤_};
 ghost use lib.ListN.{length, take, drop, replicate};
 ghost use Rattle.wire.specs.Digits.{valueOr, ValueTable, readOf, glyph, PairTable, digits, bytes, written};
 ghost use Rattle.calendar.specs.Conversions.{toDate};
-ghost use Rattle.wire.specs.Answers.{acceptance, refusal, twosComplement, volumesBytes, headBytes, amountsBytes, answerOf, answerLine, longestAnswer};
+ghost use Rattle.wire.specs.Answers.{twosComplement, volumesBytes, headBytes, amountsBytes, answerOf, answerLine, longestAnswer};
+ghost use Rattle.account.specs.Outcomes.{acceptance, declining};
 ghost use Rattle.wire.specs.Notices.{kindNumber, dateDigits, noticeLine, noticeLength};
 ghost use Rattle.wire.specs.Frames.{parsed};
 ghost use Rattle.wire.specs.Numbers.{widths, widthsBy, noFields, fieldsOf, callOf, SmallIn, Checked, ReadIn, ReadAt, Begins, Any2, Any3};
@@ -435,8 +436,8 @@ pub fn put_accepted(
 pub fn put_refusal(number: u8, out: &mut [u8], at: usize, pairs: &[u8; 512]) -> usize
     requires { ⌜ at + longestAnswer ≤ length (now out) ⌝ }
     requires { ⌜ PairTable (now pairs) ⌝ }
-    ensures { λ _. ⌜ now (out .exit) ≡ written (now (out .entry)) at (answerLine (refusal number)) ⌝ }
-    ensures { λ r. ⌜ r ≡ at + length (answerLine (refusal number)) ⌝ }
+    ensures { λ _. ⌜ now (out .exit) ≡ written (now (out .entry)) at (answerLine (declining number)) ⌝ }
+    ensures { λ r. ⌜ r ≡ at + length (answerLine (declining number)) ⌝ }
     ensures { λ r. ⌜ r ≤ at + longestAnswer ⌝ }
 {
     put_byte(out, at, pairs, number as u64);

@@ -4,7 +4,8 @@ use native.Mathlib.Omega.{arith}
 use lib.ListN.{length, take, length-take}
 use mir.Val.{toZ, ofZ}
 use mir.Syntax.{w32}
-use Rattle.wire.specs.Answers.{acceptance, answerLine}
+use Rattle.wire.specs.Answers.{answerLine}
+use Rattle.account.specs.Outcomes.{acceptance}
 use Rattle.account.specs.declared.Answer.{Answer}
 use Rattle.wire.specs.Digits.{written}
 use Rattle.text.proofs.Planning.{answer-refused, answer-accepted}

@@ -6,7 +6,8 @@ use native.Mathlib.Omega.{arith}
 use lib.ListN.{length, set, replicate}
 use lib.Seq.{length-sets}
 use Rattle.wire.specs.Digits.{digits, written}
-use Rattle.wire.specs.Answers.{refusal, answerLine}
+use Rattle.account.specs.Outcomes.{declining}
+use Rattle.wire.specs.Answers.{answerLine}
 use Rattle.wire.proofs.Writing.{written-on, length-digits, length-behind}
 use Rattle.wire.proofs.Pairs.{refusal-line, refusal-length}
 use borrow.Author.Needs.{needs}
@@ -21,7 +22,7 @@ module _ (c : tie.After-slice-known3) where
   start = zeros .before .before .before .before .before .before .before
 
   abbrev line : List ℕ
-  line = answerLine (refusal (start .args .number))
+  line = answerLine (declining (start .args .number))
 
   whole-line : set (zeros .put-zeros .last .0) (start .args .at + 60) 10 ≡ written (start .args .out .now) (start .args .at) line
   whole-line =
