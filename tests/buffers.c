@@ -20,8 +20,9 @@ enum {
     PAGE = 4096,
     /* bytes that may be read and written, between two pages that may not */
     SPACE = 64 * PAGE,
-    /* an answer of 61 bytes: number 40, all else 0 */
+    /* bytes of the answer with number 40 and all else 0, and of the longest answer */
     ANSWER = 61,
+    LONGEST = 117,
 };
 
 typedef size_t work(const uint8_t *, size_t, uint8_t *, size_t);
@@ -87,32 +88,62 @@ static void every_overlap(work *function)
     }
 }
 
-/* The second page of the input can't be read at first; when it is, the first page, read already, changes. */
-static uint8_t *second_page;
+/*
+ * A pass over an input of two pages is seen where it comes to the second one, which can't be read until then; the first
+ * one can't be read again before the next pass. In the pass that is named, the first page, read already, changes.
+ */
+static uint8_t *first_page;
+static int passes_left;
+
+static void set_access(uint8_t *page, int access)
+{
+    if (mprotect(page, PAGE, access) != 0)
+        _exit(2);
+}
 
 static void on_fault(int number, siginfo_t *info, void *context)
 {
     (void)number;
     (void)context;
     uint8_t *place = info->si_addr;
-    if (place < second_page || place >= second_page + PAGE) {
+    uint8_t *second_page = first_page + PAGE;
+    if (place < first_page || place >= second_page + PAGE) {
         static const char said[] = "a byte outside the output was written\n";
         _exit(write(STDERR_FILENO, said, sizeof said - 1) < 0 ? 2 : 1);
     }
-    if (mprotect(second_page, PAGE, PROT_READ | PROT_WRITE) != 0)
-        _exit(2);
-    memset(second_page - PAGE, '\n', PAGE);
+    int second = place >= second_page;
+    passes_left -= second;
+    set_access(first_page, second && passes_left > 0 ? PROT_NONE : PROT_READ | PROT_WRITE);
+    set_access(second_page, second ? PROT_READ | PROT_WRITE : PROT_NONE);
+    if (second && passes_left == 0)
+        memset(first_page, '\n', PAGE);
 }
 
-static void input_that_changes(work *function)
+/* Works two pages of digits, the first of which becomes LFs in the pass named. */
+static size_t worked_changing(work *function, int pass, size_t room)
 {
     uint8_t *space = guarded();
-    second_page = space + PAGE;
+    first_page = space;
+    passes_left = pass;
     memset(space, '0', 2 * PAGE);
-    must(mprotect(second_page, PAGE, PROT_NONE) == 0, "no access");
-    uint8_t *output = space + SPACE - ANSWER;
-    memset(output, 0xaa, ANSWER);
-    size_t size = function(space, 2 * PAGE, output, ANSWER);
+    set_access(space + PAGE, PROT_NONE);
+    uint8_t *output = space + SPACE - room;
+    memset(output, 0xaa, room);
+    return function(space, 2 * PAGE, output, room);
+}
+
+/* One line when its end is counted, in room for the longest answer, and 4,097 when it is worked. */
+static void changed_when_counted(work *function)
+{
+    worked_changing(function, 1, LONGEST);
+    must(passes_left == 0, "the input did not change");
+}
+
+/* One line when it is measured, and 4,097 when it is written. */
+static void changed_when_measured(work *function)
+{
+    size_t size = worked_changing(function, 2, ANSWER);
+    must(function != breccianest_bill || passes_left == 0, "the input did not change");
     must(function != breccianest_bill || size == ANSWER, "another size than the input had when it was measured");
 }
 
@@ -155,7 +186,8 @@ int main(void)
     } tests[] = {
         {"a long line in the output", long_line_in_the_output},
         {"every overlap", every_overlap},
-        {"an input that changes", input_that_changes},
+        {"an input changed when its lines are counted", changed_when_counted},
+        {"an input changed when it is measured", changed_when_measured},
         {"null pointers of length 0", null_pointers},
     };
     int passed = 0;
