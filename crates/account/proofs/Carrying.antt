@@ -20,11 +20,12 @@ use Rattle.ledger.specs.Numbers.{lying, Lies}
 use Rattle.ledger.proofs.Bounds.{standing-stored}
 use Rattle.ledger.proofs.Within.{number-passes}
 use Rattle.ledger.proofs.Queues.{part-count}
-use Rattle.plan.specs.declared.Head.{Head}
-use Rattle.plan.specs.declared.Call.{Call}
+use Rattle.intake.specs.declared.Head.{Head}
+use Rattle.intake.specs.declared.Call.{Call}
 use Rattle.plan.specs.declared.Plan.{Plan}
-use Rattle.plan.specs.Refusals.{firstRefusal}
-use Rattle.plan.specs.Plans.{EstimatesFit, changed, passedPlan, passedVolumes}
+use Rattle.intake.specs.Refusals.{firstRefusal}
+use Rattle.intake.specs.Heads.{EstimatesFit}
+use Rattle.plan.specs.Plans.{changed, passedPlan, passedVolumes}
 use Rattle.plan.proofs.Bounds.{counted}
 use Rattle.account.specs.declared.Account.{Account}
 use Rattle.account.specs.declared.Outcome.{Outcome}

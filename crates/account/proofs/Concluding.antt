@@ -6,10 +6,10 @@ use native.Mathlib.Omega.{arith}
 use borrow.Author.Tests.{leb-true, eq-eqb, ne-eqb, lt-ltb}
 use Rattle.ledger.specs.declared.Ledger.{Ledger}
 use Rattle.account.specs.declared.Account.{Account}
-use Rattle.plan.specs.declared.Call.{Call}
+use Rattle.intake.specs.declared.Call.{Call}
 use Rattle.account.specs.Limits.{itemsAllowed, creditAllowed}
-use Rattle.plan.specs.Refusals.{unless, firstRefusal}
-use Rattle.plan.proofs.Passed.{passes}
+use Rattle.intake.specs.Refusals.{unless, firstRefusal}
+use Rattle.intake.proofs.Passed.{passes}
 use Rattle.ledger.specs.Limits.{capacity}
 use Rattle.account.specs.Calls.{headOf, Work, work}
 use Rattle.account.specs.Whole.{whole}

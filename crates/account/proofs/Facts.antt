@@ -16,13 +16,13 @@ use Rattle.ledger.specs.declared.Ledger.{Ledger}
 use Rattle.ledger.specs.Limits.{lastCallDay, capacity, mostPrice, mostInterest, mostCredit}
 use Rattle.ledger.specs.Interest.{isPrice}
 use Rattle.ledger.specs.Posting.{standing}
-use Rattle.plan.specs.declared.Status.{Status}
-use Rattle.plan.specs.declared.Status.the-variants.{New, Supplied, Stopped, Cancelled}
+use Rattle.intake.specs.declared.Status.{Status}
+use Rattle.intake.specs.declared.Status.the-variants.{New, Supplied, Stopped, Cancelled}
 use Rattle.account.specs.declared.Account.{Account}
-use Rattle.plan.specs.Limits.{mostDays, mostCharge, mostVolume, mostMisses, within, fuelAllowed, dayAllowed, digitsAllowed, onDial, volumeAllowed, missesAllowed}
-use Rattle.plan.specs.Statuses.{isNew, isSupplied, isStopped, isCancelled, startOf}
-use Rattle.plan.specs.Plans.{EstimateBounds}
-use Rattle.plan.proofs.Tests.{and-left, and-right, and-intro, within-low, within-high, within-intro, either-zero, zero-either}
+use Rattle.intake.specs.Limits.{mostDays, mostCharge, mostVolume, mostMisses, within, fuelAllowed, dayAllowed, digitsAllowed, onDial, volumeAllowed, missesAllowed}
+use Rattle.intake.specs.Statuses.{isNew, isSupplied, isStopped, isCancelled, startOf}
+use Rattle.intake.specs.Heads.{EstimateBounds}
+use Rattle.intake.proofs.Tests.{and-left, and-right, and-intro, within-low, within-high, within-intro, either-zero, zero-either}
 use Rattle.account.specs.Limits.{lastDueDay, itemsAllowed, creditAllowed}
 use Rattle.account.specs.Calls.{standingEstimates}
 use Rattle.account.specs.Whole.{wholeEstimate, wholeItem, wholeLedger, wholeMeter, wholeParts, asMade, wholeStatus, whole}

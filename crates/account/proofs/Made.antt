@@ -12,11 +12,11 @@ use Rattle.ledger.specs.declared.Kind.the-variants.{Interest, Price}
 use Rattle.ledger.specs.declared.Item.{Item}
 use Rattle.ledger.specs.declared.Ledger.{Ledger}
 use Rattle.ledger.specs.Interest.{isPrice}
-use Rattle.plan.specs.declared.Status.the-variants.{New}
+use Rattle.intake.specs.declared.Status.the-variants.{New}
 use Rattle.account.specs.declared.Account.{Account}
 use Rattle.account.specs.Calls.{newAccount}
 use Rattle.account.specs.Whole.{agree, sameEstimate, sameItem, madeMeter, madeEstimates, madeLedger, asMade, wholeStatus, whole}
-use Rattle.plan.proofs.Tests.{and-left, and-right}
+use Rattle.intake.proofs.Tests.{and-left, and-right}
 
 -- What agrees is equal.
 marks-equal : (one other : Bool) → agree one other ≡ true → one ≡ other

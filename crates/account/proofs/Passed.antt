@@ -6,9 +6,9 @@ use native.Mathlib.Omega.{arith}
 use lib.Dec.{ltb}
 use borrow.Author.Tests.{leb-true, ltb-true, ltb-false}
 use Rattle.ledger.specs.Limits.{capacity, mostCredit}
-use Rattle.plan.specs.declared.Call.{Call}
-use Rattle.plan.specs.Refusals.{unless, firstRefusal}
-use Rattle.plan.proofs.Passed.{passes}
+use Rattle.intake.specs.declared.Call.{Call}
+use Rattle.intake.specs.Refusals.{unless, firstRefusal}
+use Rattle.intake.proofs.Passed.{passes}
 use Rattle.account.specs.declared.Account.{Account}
 use Rattle.account.specs.Limits.{itemsAllowed, creditAllowed}
 use Rattle.account.specs.Calls.{headOf, work}

@@ -17,10 +17,10 @@ use Rattle.ledger.specs.Limits.{capacity, mostCredit}
 use Rattle.ledger.specs.Posting.{Standing, standing, stored, ItemBounds, OpenBounds}
 use Rattle.ledger.specs.Entries.{Within}
 use Rattle.ledger.proofs.Bounds.{standing-stored}
-use Rattle.plan.specs.declared.Status.{Status}
-use Rattle.plan.specs.declared.Status.the-variants.{New, Supplied, Stopped, Cancelled}
-use Rattle.plan.specs.Limits.{mostMisses, mostVolume}
-use Rattle.plan.specs.Plans.{HeadBounds, EstimateBounds, EstimatesFit}
+use Rattle.intake.specs.declared.Status.{Status}
+use Rattle.intake.specs.declared.Status.the-variants.{New, Supplied, Stopped, Cancelled}
+use Rattle.intake.specs.Limits.{mostMisses, mostVolume}
+use Rattle.intake.specs.Heads.{HeadBounds, EstimateBounds, EstimatesFit}
 use Rattle.account.specs.declared.Account.{Account}
 use Rattle.account.specs.Calls.{headOf, standingEstimates}
 use Rattle.account.specs.Whole.{whole}

@@ -20,13 +20,14 @@ use Rattle.ledger.specs.Limits.{capacity}
 use Rattle.ledger.specs.Entries.{taken, asked, numberOf, next, interestPosted}
 use Rattle.ledger.proofs.Within.{number-passes}
 use Rattle.ledger.proofs.Posting.{closed-with-none}
-use Rattle.plan.specs.declared.Call.{Call}
-use Rattle.plan.specs.declared.Call.the-variants.{Opening, Reading, Missed, Absent, Exchange, Disconnection, Reconnection, Cancellation, Payment, StoppedCancellation}
+use Rattle.intake.specs.declared.Call.{Call}
+use Rattle.intake.specs.declared.Call.the-variants.{Opening, Reading, Missed, Absent, Exchange, Disconnection, Reconnection, Cancellation, Payment, StoppedCancellation}
 use Rattle.plan.specs.declared.Plan.{Plan}
 use Rattle.plan.specs.declared.Then.{Then}
 use Rattle.plan.specs.declared.Then.the-variants.{Goes, Stops, Ends}
-use Rattle.plan.specs.Statuses.{isCancelled}
-use Rattle.plan.specs.Plans.{changed, statusAfter, paymentPlan, stoppedPlan, missPlan, finals, readPlan, passedPlan, passedVolumes, filledWith}
+use Rattle.intake.specs.Statuses.{isCancelled}
+use Rattle.plan.specs.Plans.{changed, statusAfter, paymentPlan, stoppedPlan, missPlan, readPlan, passedPlan, passedVolumes}
+use Rattle.closing.specs.Closing.{finals, filledWith}
 use Rattle.account.specs.declared.Account.{Account}
 use Rattle.account.specs.Calls.{headOf, standingEstimates, Work, work, read, missed, cancelled, paidLedger, payment, stoppedCancellation}
 use Rattle.account.specs.Works.{accountOf, workOf}

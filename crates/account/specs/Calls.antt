@@ -13,13 +13,14 @@ use Rattle.meter.specs.Sharing as Sharing
 use Rattle.meter.specs.Sharing.{finalVolumes}
 use Rattle.ledger.specs.declared.Ledger.{Ledger}
 use Rattle.ledger.specs.Posting.{Standing, standing, stored, closed, paid, heldPosted}
-use Rattle.plan.specs.declared.Status.{Status}
-use Rattle.plan.specs.declared.Status.the-variants.{New, Supplied, Stopped, Cancelled}
-use Rattle.plan.specs.declared.Head.{Head}
-use Rattle.plan.specs.declared.Call.{Call}
-use Rattle.plan.specs.declared.Call.the-variants.{Opening, Reading, Missed, Absent, Exchange, Disconnection, Reconnection, Cancellation, Payment, StoppedCancellation}
-use Rattle.plan.specs.Statuses.{isCancelled, startOf, stopOf}
-use Rattle.plan.specs.Closing.{daysOf, dayAfter, resumedStart, ofThisPeriod, netOf, storedEstimates}
+use Rattle.intake.specs.declared.Status.{Status}
+use Rattle.intake.specs.declared.Status.the-variants.{New, Supplied, Stopped, Cancelled}
+use Rattle.intake.specs.declared.Head.{Head}
+use Rattle.intake.specs.declared.Call.{Call}
+use Rattle.intake.specs.declared.Call.the-variants.{Opening, Reading, Missed, Absent, Exchange, Disconnection, Reconnection, Cancellation, Payment, StoppedCancellation}
+use Rattle.intake.specs.Statuses.{isCancelled, startOf, stopOf}
+use Rattle.intake.specs.Periods.{daysOf, dayAfter, resumedStart}
+use Rattle.closing.specs.Closing.{ofThisPeriod, netOf, storedEstimates}
 use Rattle.account.specs.declared.Account.{Account}
 
 abbrev pub newAccount : Account

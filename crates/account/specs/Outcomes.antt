@@ -10,7 +10,7 @@ use Rattle.ledger.specs.Posting.{standing}
 use Rattle.account.specs.declared.Account.{Account}
 use Rattle.account.specs.declared.Answer.{Answer}
 use Rattle.account.specs.declared.Outcome.{Outcome}
-use Rattle.plan.specs.declared.Call.{Call}
+use Rattle.intake.specs.declared.Call.{Call}
 use Rattle.account.specs.Calls.{Work, work}
 use Rattle.account.specs.Refusals.{lastRefusal, refusal}
 

@@ -3,8 +3,8 @@ use mathlib.Core.Bool.{cond}
 use Prim.Native.Nat.{ℕ}
 use lib.Dec.{ltb}
 use Rattle.ledger.specs.declared.Ledger.{Ledger}
-use Rattle.plan.specs.declared.Call.{Call}
-use Rattle.plan.specs.Refusals.{unless, firstRefusal}
+use Rattle.intake.specs.declared.Call.{Call}
+use Rattle.intake.specs.Refusals.{unless, firstRefusal}
 use Rattle.account.specs.declared.Account.{Account}
 use Rattle.account.specs.Limits.{itemsAllowed, creditAllowed}
 use Rattle.account.specs.Calls.{headOf, work}

@@ -9,11 +9,11 @@ use Rattle.ledger.specs.declared.Item.{Item}
 use Rattle.ledger.specs.declared.Ledger.{Ledger}
 use Rattle.ledger.specs.Interest.{isPrice}
 use Rattle.ledger.specs.Posting.{standing}
-use Rattle.plan.specs.declared.Status.{Status}
-use Rattle.plan.specs.declared.Status.the-variants.{New, Supplied, Stopped, Cancelled}
+use Rattle.intake.specs.declared.Status.{Status}
+use Rattle.intake.specs.declared.Status.the-variants.{New, Supplied, Stopped, Cancelled}
 use Rattle.account.specs.declared.Account.{Account}
 use Rattle.ledger.specs.Limits.{mostPrice, mostInterest}
-use Rattle.plan.specs.Limits.{mostDays, mostCharge, within, dayAllowed, digitsAllowed, onDial, fuelAllowed, missesAllowed, volumeAllowed}
+use Rattle.intake.specs.Limits.{mostDays, mostCharge, within, dayAllowed, digitsAllowed, onDial, fuelAllowed, missesAllowed, volumeAllowed}
 use Rattle.account.specs.Limits.{lastDueDay, itemsAllowed, creditAllowed}
 use Rattle.account.specs.Calls.{newAccount, standingEstimates}
 

@@ -6,7 +6,7 @@ use Rattle.meter.specs.declared.Estimates.{Estimates}
 use Rattle.ledger.specs.declared.Ledger.{Ledger}
 use Rattle.ledger.specs.Posting.{standing, stored}
 use Rattle.ledger.specs.Entries.{asked, interestPosted}
-use Rattle.plan.specs.declared.Head.{Head}
+use Rattle.intake.specs.declared.Head.{Head}
 use Rattle.plan.specs.declared.Plan.{Plan}
 use Rattle.plan.specs.Plans.{changed}
 use Rattle.account.specs.declared.Account.{Account}

@@ -5,8 +5,8 @@ ghost use mathlib.Core.List.{List, [], _∷_, _++_};
 ghost use Prim.Native.Nat.{ℕ, _<_};
 ghost use Rattle.meter.specs.Sharing.{standing, volumesOf};
 ghost use Rattle.ledger.specs.Entries.{EntryBounds};
-ghost use Rattle.plan.specs.Limits.{mostMisses};
-ghost use Rattle.plan.specs.Closing.{storedEstimates};
+ghost use Rattle.intake.specs.Limits.{mostMisses};
+ghost use Rattle.closing.specs.Closing.{storedEstimates};
 ghost use Rattle.plan.specs.Plans.{changed, Room};
 ghost use Rattle.account.specs.Calls.{headOf};
 ghost use Rattle.account.specs.Whole.{whole};
@@ -15,15 +15,15 @@ ghost use Rattle.account.specs.Works.{accountOf, answerOf, workOf};
 use crate::Account;
 use crate::Answer;
 use crate::Outcome;
+use intake::Call;
+use intake::Head;
+use intake::limits::MOST_MISSES;
 use ledger::Ledger;
 use meter::Estimate;
 use meter::Estimates;
 use meter::Volumes;
-use plan::Call;
 use plan::Change;
-use plan::Head;
 use plan::Plan;
-use plan::limits::MOST_MISSES;
 use plan::plans::plan_with;
 use tariff::Fuel;
 
@@ -67,7 +67,7 @@ fn carry_out(account: Account, plan: Plan, volumes: [u32; 7]) -> Outcome
             answer: answer_of(plan, volumes, 0, ledger.unpaid(), ledger.credit),
         };
     }
-    let posted = ledger.enter(plan.entry);
+    let posted = lanes::enter_ledger(ledger, plan.entry);
     if posted.number != 0 {
         return decline(account, posted.number);
     }

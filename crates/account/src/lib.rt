@@ -1,6 +1,6 @@
 // A gas account: its status, what it holds, the calls made on it and their answers.
 ghost use mathlib.Core.Path.{_≡_};
-ghost use Rattle.plan.specs.declared.Call.the-variants.{Opening, Reading, Missed, Absent, Exchange, Disconnection, Reconnection, Cancellation, Payment, StoppedCancellation};
+ghost use Rattle.intake.specs.declared.Call.the-variants.{Opening, Reading, Missed, Absent, Exchange, Disconnection, Reconnection, Cancellation, Payment, StoppedCancellation};
 ghost use Rattle.account.specs.Calls.{newAccount};
 ghost use Rattle.account.specs.Outcomes.{outcome};
 
@@ -11,12 +11,12 @@ mod whole;
 use crate::calls::decline;
 use crate::calls::no_estimates;
 use crate::whole::is_whole;
+use intake::Call;
+use intake::Status;
 use ledger::Ledger;
 use meter::Estimates;
 use meter::Meter;
 use meter::Volumes;
-use plan::Call;
-use plan::Status;
 use tariff::Fuel;
 
 pub struct Account {

@@ -12,6 +12,14 @@ ghost use Rattle.account.specs.Calls.{newAccount};
 ghost use Rattle.account.specs.Whole.{sameEstimate, sameItem, madeMeter, madeEstimates, madeLedger, asMade, wholeEstimate, wholeItem, wholeLedger, wholeMeter, wholeParts, whole};
 use crate::Account;
 use crate::limits::LAST_DUE_DAY;
+use intake::Status;
+use intake::limits::MOST_CHARGE;
+use intake::limits::MOST_DAYS;
+use intake::limits::MOST_MISSES;
+use intake::limits::MOST_VOLUME;
+use intake::limits::digits_allowed;
+use intake::limits::fuel_allowed;
+use intake::limits::on_dial;
 use ledger::Item;
 use ledger::Kind;
 use ledger::Ledger;
@@ -22,14 +30,6 @@ use ledger::limits::MOST_INTEREST;
 use ledger::limits::MOST_PRICE;
 use meter::Estimate;
 use meter::Estimates;
-use plan::Status;
-use plan::limits::MOST_CHARGE;
-use plan::limits::MOST_DAYS;
-use plan::limits::MOST_MISSES;
-use plan::limits::MOST_VOLUME;
-use plan::limits::digits_allowed;
-use plan::limits::fuel_allowed;
-use plan::limits::on_dial;
 
 pub fn is_whole(account: Account) -> bool
     ensures { λ r. ⌜ r ≡ whole account ⌝ }

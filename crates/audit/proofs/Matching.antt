@@ -6,11 +6,11 @@ use Prim.Native.Nat.{ℕ, _+_, _≤_}
 use lib.Dec.{eqb}
 use Rattle.lists.proofs.Pad.{take-pad}
 use Rattle.meter.specs.Sharing.{blank}
-use Rattle.plan.specs.declared.Status.{Status}
-use Rattle.plan.specs.declared.Status.the-variants.{New, Supplied, Stopped, Cancelled}
+use Rattle.intake.specs.declared.Status.{Status}
+use Rattle.intake.specs.declared.Status.the-variants.{New, Supplied, Stopped, Cancelled}
 use Rattle.account.specs.declared.Account.{Account}
-use Rattle.plan.specs.Statuses.{startOf, stopOf, isSupplied, isStopped}
-use Rattle.plan.specs.Closing.{storedEstimates}
+use Rattle.intake.specs.Statuses.{startOf, stopOf, isSupplied, isStopped}
+use Rattle.closing.specs.Closing.{storedEstimates}
 use Rattle.account.specs.Calls.{standingEstimates}
 use Rattle.account.proofs.Facts.{Facts, StatusFacts}
 use Rattle.account.proofs.Sound.{load}

@@ -12,17 +12,17 @@ use Rattle.meter.specs.declared.Meter.{Meter}
 use Rattle.meter.specs.declared.Estimates.{Estimates}
 use Rattle.ledger.specs.declared.Ledger.{Ledger}
 use Rattle.ledger.specs.Posting.{Standing, standing}
-use Rattle.plan.specs.declared.Status.{Status}
-use Rattle.plan.specs.declared.Status.the-variants.{New, Supplied, Stopped, Cancelled}
+use Rattle.intake.specs.declared.Status.{Status}
+use Rattle.intake.specs.declared.Status.the-variants.{New, Supplied, Stopped, Cancelled}
 use Rattle.account.specs.declared.Account.{Account}
-use Rattle.plan.specs.Statuses.{stopOf, isNew, isSupplied, isStopped}
-use Rattle.plan.specs.Closing.{resumedStart}
+use Rattle.intake.specs.Statuses.{stopOf, isNew, isSupplied, isStopped}
+use Rattle.intake.specs.Periods.{resumedStart}
 use Rattle.account.specs.Calls
 use Rattle.account.specs.Calls.{headOf, standingEstimates}
 use Rattle.account.proofs.Made.{Made}
 use Rattle.account.proofs.Facts.{ItemFacts, LedgerFacts, Facts, StatusFacts, new-facts}
-use Rattle.plan.specs.Plans.{EstimateBounds}
-use Rattle.plan.proofs.Passed.{DialPassed, ExchangePassed}
+use Rattle.intake.specs.Heads.{EstimateBounds}
+use Rattle.intake.proofs.Passed.{DialPassed, ExchangePassed}
 use Rattle.account.proofs.Sound.{item-later, load}
 use Rattle.audit.specs.Book
 use Rattle.audit.specs.Book.{Book, Money, Metering, closedOn, settled, acceptMeter, begun, exchanged}

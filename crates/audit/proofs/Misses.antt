@@ -14,15 +14,16 @@ use Rattle.tariff.proofs.Bounds.{price-most}
 use Rattle.meter.specs.Sharing.{blank}
 use Rattle.ledger.specs.Posting.{Standing, standing, stored, closed}
 use Rattle.account.specs.declared.Account.{Account}
-use Rattle.plan.specs.declared.Call.{Call}
-use Rattle.plan.specs.Statuses.{startOf}
-use Rattle.plan.specs.Closing.{daysOf, storedEstimates}
+use Rattle.intake.specs.declared.Call.{Call}
+use Rattle.intake.specs.Statuses.{startOf}
+use Rattle.intake.specs.Periods.{daysOf}
+use Rattle.closing.specs.Closing.{storedEstimates}
 use Rattle.account.specs.Calls.{headOf, standingEstimates, estimateOf, missed}
-use Rattle.plan.specs.Plans.{EstimateBounds}
+use Rattle.intake.specs.Heads.{EstimateBounds}
 use Rattle.account.proofs.Facts.{MeterFacts}
-use Rattle.plan.proofs.Passed.{MissPassed}
+use Rattle.intake.proofs.Passed.{MissPassed}
 use Rattle.account.proofs.Sound.{Bounded, held-most, closed-bounded, stored-facts}
-use Rattle.plan.proofs.Nets.{billable}
+use Rattle.closing.proofs.Nets.{billable}
 use Rattle.ledger.proofs.Bounds.{standing-stored}
 use Rattle.audit.specs.Book
 use Rattle.audit.specs.Book.{Book, Money, Period, isReading, isAbsence, asEstimate, estimates, prices, priceAt, newPeriod, netAdded, settled, finished, acceptMiss}

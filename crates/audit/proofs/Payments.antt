@@ -6,13 +6,13 @@ use native.Mathlib.Omega.{arith}
 use lib.ListN.{length}
 use Rattle.ledger.specs.declared.Ledger.{Ledger}
 use Rattle.ledger.specs.Posting.{Standing, standing, stored, paid, heldPosted}
-use Rattle.plan.specs.declared.Status.{Status}
-use Rattle.plan.specs.declared.Status.the-variants.{New, Supplied, Stopped, Cancelled}
+use Rattle.intake.specs.declared.Status.{Status}
+use Rattle.intake.specs.declared.Status.the-variants.{New, Supplied, Stopped, Cancelled}
 use Rattle.account.specs.declared.Account.{Account}
 use Rattle.account.specs.Calls.{headOf, withLedger, paidLedger, payment, stoppedCancellation}
-use Rattle.plan.specs.Statuses.{isCancelled, isNew}
+use Rattle.intake.specs.Statuses.{isCancelled, isNew}
 use Rattle.account.proofs.Facts.{Facts, StatusFacts, not-new-facts}
-use Rattle.plan.proofs.Passed.{PaymentPassed}
+use Rattle.intake.proofs.Passed.{PaymentPassed}
 use Rattle.account.proofs.Sound.{Bounded, Sound, held-most, paid-bounded, posted-sound, stored-facts}
 use Rattle.ledger.proofs.Bounds.{standing-stored}
 use Rattle.audit.specs.Book.{Book, Money, prices, settled, received, interestEntered, cancelled, finished, acceptMoney}

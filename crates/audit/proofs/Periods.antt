@@ -14,7 +14,7 @@ use Rattle.lists.proofs.Sum.{total-append, total-reverse}
 use Rattle.lists.proofs.Every.{every-append, every-reverse}
 use Rattle.meter.specs.Sharing.{sharing, estimated, sharedPool, finalVolumes}
 use Rattle.meter.proofs.Absence.{ZeroAt, absent-zero}
-use Rattle.plan.specs.Closing.{ofThisPeriod, revisedPrices, revisedCharges, netOf}
+use Rattle.closing.specs.Closing.{ofThisPeriod, revisedPrices, revisedCharges, netOf}
 use Rattle.audit.specs.Book.{Period, isReading, isAbsence, estimates, beforeEstimates, priceAt, prices, asEstimate, revised, lastOf, aboveZero, belowZero}
 
 -- Differences.

@@ -16,19 +16,20 @@ use Rattle.meter.proofs.Sharing.{final-sum}
 use Rattle.ledger.specs.declared.Ledger.{Ledger}
 use Rattle.ledger.specs.Posting.{Standing, standing, stored, closed, heldPosted, chargeOf}
 use Rattle.ledger.proofs.Settling.{left-or-none}
-use Rattle.plan.specs.declared.Status.{Status}
-use Rattle.plan.specs.declared.Status.the-variants.{Supplied, Stopped, Cancelled}
+use Rattle.intake.specs.declared.Status.{Status}
+use Rattle.intake.specs.declared.Status.the-variants.{Supplied, Stopped, Cancelled}
 use Rattle.account.specs.declared.Account.{Account}
-use Rattle.plan.specs.declared.Call.{Call}
-use Rattle.plan.specs.Statuses.{startOf}
-use Rattle.plan.specs.Closing.{daysOf, dayAfter, ofThisPeriod}
+use Rattle.intake.specs.declared.Call.{Call}
+use Rattle.intake.specs.Statuses.{startOf}
+use Rattle.intake.specs.Periods.{daysOf, dayAfter}
+use Rattle.closing.specs.Closing.{ofThisPeriod}
 use Rattle.account.specs.Calls
 use Rattle.account.specs.Calls.{headOf, standingEstimates, madeFinal, closingPrice, closingNet, closedLedger, afterReading}
 use Rattle.meter.specs.Metering.{poolTo}
 use Rattle.account.proofs.Facts.{ItemFacts, MeterFacts, LedgerFacts, Facts, StatusFacts}
-use Rattle.plan.proofs.Passed.{ReadingPassed}
+use Rattle.intake.proofs.Passed.{ReadingPassed}
 use Rattle.account.proofs.Sound.{item-later, Bounded, held-most, closed-bounded, posted-sound, stored-facts}
-use Rattle.plan.proofs.Nets.{billable, this-within, charge-most}
+use Rattle.closing.proofs.Nets.{billable, this-within, charge-most}
 use Rattle.ledger.proofs.Bounds.{standing-stored}
 use Rattle.audit.specs.Book
 use Rattle.audit.specs.Book.{Book, Money, Period, isReading, isAbsence, estimates, prices, priceAt, lastOf, newPeriod, poolWith, withReading, netAdded, paidIn, settled, finished, interestEntered, cancelled, read, acceptReading}

@@ -12,20 +12,20 @@ use Rattle.lists.proofs.Pad.{take-pad}
 use Rattle.ledger.specs.Settling.{unpaidOf}
 use Rattle.ledger.specs.Posting.{stored, Tidy}
 use Rattle.account.specs.declared.Account.{Account}
-use Rattle.plan.specs.declared.Call.{Call}
+use Rattle.intake.specs.declared.Call.{Call}
 use Rattle.account.specs.declared.Outcome.{Outcome}
-use Rattle.plan.specs.declared.Call.the-variants.{Opening, Reading, Missed, Absent, Exchange, Disconnection, Reconnection, Cancellation, Payment, StoppedCancellation}
+use Rattle.intake.specs.declared.Call.the-variants.{Opening, Reading, Missed, Absent, Exchange, Disconnection, Reconnection, Cancellation, Payment, StoppedCancellation}
 use Rattle.account.specs.Calls.{standingEstimates, headOf, newAccount, Work, work}
-use Rattle.plan.specs.Statuses.{isNew, isStopped}
-use Rattle.plan.specs.Refusals.{firstRefusal}
+use Rattle.intake.specs.Statuses.{isNew, isStopped}
+use Rattle.intake.specs.Refusals.{firstRefusal}
 use Rattle.account.specs.Refusals.{refusal}
 use Rattle.account.specs.Outcomes.{accepted, declined, outcome}
-use Rattle.plan.specs.Closing.{storedEstimates}
+use Rattle.closing.specs.Closing.{storedEstimates}
 use Rattle.account.specs.Whole.{madeMeter, madeEstimates, madeLedger, asMade, whole}
 use Rattle.account.proofs.Facts.{facts-whole}
 use Rattle.account.proofs.Passed
 use Rattle.account.proofs.Passed.{Accepted}
-use Rattle.plan.proofs.Passed.{begun, reading-passed, miss-passed, dial-passed, exchange-passed, payment-passed}
+use Rattle.intake.proofs.Passed.{begun, reading-passed, miss-passed, dial-passed, exchange-passed, payment-passed}
 use Rattle.audit.specs.Book.{Book, newPeriod, prices, acceptMiss, accept, enter}
 use Rattle.audit.specs.Claim.{Run, start, step, run, finalVolume, unpaidOn, Reconciled, Done, Ran, seen}
 use Rattle.audit.proofs.Balance.{standing-is, yen-sum}

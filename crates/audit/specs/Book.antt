@@ -14,8 +14,8 @@ use Rattle.ledger.specs.declared.Kind.{Kind}
 use Rattle.ledger.specs.declared.Kind.the-variants.{Interest, Price}
 use Rattle.ledger.specs.declared.Item.{Item}
 use Rattle.ledger.specs.Interest.{interestOn}
-use Rattle.plan.specs.declared.Call.{Call}
-use Rattle.plan.specs.declared.Call.the-variants.{Opening, Reading, Missed, Absent, Exchange, Disconnection, Reconnection, Cancellation, Payment, StoppedCancellation}
+use Rattle.intake.specs.declared.Call.{Call}
+use Rattle.intake.specs.declared.Call.the-variants.{Opening, Reading, Missed, Absent, Exchange, Disconnection, Reconnection, Cancellation, Payment, StoppedCancellation}
 
 pub record Period : Type 0 where
   -- the call that closed it

@@ -9,7 +9,7 @@ use Rattle.ledger.specs.Settling.{unpaidOf}
 use Rattle.ledger.specs.Posting.{standing}
 use Rattle.account.specs.declared.Account.{Account}
 use Rattle.account.specs.declared.Answer.{Answer}
-use Rattle.plan.specs.declared.Call.{Call}
+use Rattle.intake.specs.declared.Call.{Call}
 use Rattle.account.specs.declared.Outcome.{Outcome}
 use Rattle.account.specs.Calls.{newAccount}
 use Rattle.account.specs.Outcomes.{outcome}

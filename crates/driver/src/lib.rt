@@ -3,10 +3,10 @@ ghost use mathlib.Core.Path.{_≡_};
 ghost use mathlib.Core.Bool.{true};
 ghost use mathlib.Core.List.{_++_};
 ghost use Rattle.text.specs.Pieces.{Follows, AtEnd, Behind, Finished};
-ghost use Rattle.text.specs.Reached.{Ready};
+ghost use Rattle.feeding.specs.Reached.{Ready};
 use libc::STDIN_FILENO;
 use libc::STDOUT_FILENO;
-use text::State;
+use lines::State;
 
 // Where a run stands: sound until a read or a write fails.
 pub struct Run {
@@ -36,7 +36,7 @@ fn feed_block(state: State, block: &[u8], is_printing: bool) -> Run
     let mut out = io::large_buffer();
     let mut at: usize = 0;
     while at < block.len() {
-        let fed = text::feed(state, &block[at..], &mut out);
+        let fed = feeding::feed(state, &block[at..], &mut out);
         let written = fed.written;
         state = fed.state;
         at += fed.taken;
@@ -56,7 +56,7 @@ fn end_input(state: State, is_printing: bool) -> Run
     ensures { λ r. ⌜ ((b : Behind state) → AtEnd (b .seen) (r .state)) ⌝ }
 {
     let mut out = [0u8; 117];
-    let fed = text::finish(state, &mut out);
+    let fed = feeding::finish(state, &mut out);
     let written = fed.written;
     let sound = print(&out[..written], is_printing);
     let state = fed.state;

@@ -6,7 +6,7 @@ use Rattle.tariff.specs.Price.{fullMonth, basicCharge, bandVolume, priceIn, pri
 use Rattle.meter.specs.Dial.{span, advance}
 use Rattle.meter.specs.Sharing.{sharedPool, finalVolumes}
 use Rattle.ledger.specs.Interest.{body, interestOn}
-use Rattle.plan.specs.Closing.{netOf}
+use Rattle.closing.specs.Closing.{netOf}
 use Rattle.figures.specs.Starred.{Starred}
 
 pub starred : Starred

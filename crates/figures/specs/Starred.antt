@@ -13,7 +13,7 @@ use Rattle.meter.specs.Sharing.{finalVolumes}
 use Rattle.ledger.specs.declared.Kind.the-variants.{Price}
 use Rattle.ledger.specs.Interest.{interestOn}
 use Rattle.ledger.specs.Posting.{newItem}
-use Rattle.plan.specs.Closing.{netOf}
+use Rattle.closing.specs.Closing.{netOf}
 
 abbrev pub fuel : ℕ → ℕ → Fuel
 fuel lng propane = record { lng = lng; propane = propane }

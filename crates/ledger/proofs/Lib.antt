@@ -11,4 +11,3 @@ pub mod Entries
 pub mod Within
 pub mod Places
 pub mod Queues
-pub mod Rows

@@ -5,4 +5,3 @@ pub mod Settling
 pub mod Posting
 pub mod Entries
 pub mod Numbers
-pub mod Lanes

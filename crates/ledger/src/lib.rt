@@ -6,17 +6,13 @@ ghost use Prim.Native.Nat.{_≤_};
 ghost use Rattle.ledger.specs.Interest.{isPrice, body, interestOn};
 ghost use Rattle.ledger.specs.Settling.{unpaidOf};
 ghost use Rattle.ledger.specs.Posting.{stored, standing, chargeOf, creditOf, OpenBounds, NetBounds};
-ghost use Rattle.ledger.specs.Limits.{capacity, mostPrice};
-ghost use Rattle.ledger.specs.Entries.{EntryBounds, Within, Answered};
+ghost use Rattle.ledger.specs.Limits.{lastCallDay, mostPrice};
+ghost use Rattle.ledger.specs.Numbers.{made};
 
-pub mod lanes;
 pub mod limits;
-mod numbers;
+pub mod numbers;
 
-use crate::lanes::gathered;
-use crate::lanes::spread;
 use crate::limits::CAPACITY;
-use crate::limits::LANE_PLACES;
 
 pub enum Kind {
     Interest,
@@ -80,7 +76,7 @@ pub struct Posted {
 }
 
 // Days from obligation to due (H).
-pub const TERM: u16 = 30;
+const TERM: u16 = 30;
 
 pub const BLANK: Item = Item {
     amount: 0,
@@ -102,41 +98,6 @@ impl Ledger {
         }
     }
 
-    // An entry worked where the items are spread.
-    pub fn enter(self, entry: Entry) -> Posted
-        requires { ⌜ Within (standing self) ⌝ }
-        requires { ⌜ self .count ≤ capacity ⌝ }
-        requires { ⌜ EntryBounds entry ⌝ }
-        ensures { λ r. ⌜ Answered entry (standing self) r ⌝ }
-    {
-        let all = self.items;
-        let mut unpaid = [0u64; LANE_PLACES];
-        let mut amount = [0u64; LANE_PLACES];
-        let mut label = [0u64; LANE_PLACES];
-        spread(all, &mut unpaid, &mut amount, &mut label);
-        let queue = Queue {
-            front: 0,
-            count: self.count,
-            owed: self.unpaid(),
-            held: self.held,
-            credit: self.credit,
-        };
-        let entered = lanes::enter(&mut unpaid, &mut amount, &mut label, queue, entry);
-        let after = entered.queue;
-        let items = gathered(&unpaid, &amount, &label, after.front, after.count);
-        Posted {
-            number: entered.number,
-            ledger: Ledger {
-                count: after.count,
-                items,
-                held: after.held,
-                credit: after.credit,
-            },
-            interest: entered.interest,
-            unpaid: after.owed,
-        }
-    }
-
     // What is unpaid over all open items.
     pub fn unpaid(self) -> u64
         requires { ⌜ OpenBounds self ⌝ }
@@ -151,6 +112,20 @@ impl Ledger {
             i += 1;
         }
         sum
+    }
+}
+
+// An item of a day, with what is unpaid of it.
+pub fn made_item(kind: Kind, day: u16, amount: u64, unpaid: u64) -> Item
+    requires { ⌜ day ≤ lastCallDay ⌝ }
+    ensures { λ r. ⌜ r ≡ made kind day amount unpaid ⌝ }
+{
+    Item {
+        amount,
+        unpaid,
+        obligation: day,
+        due: day + TERM,
+        kind,
     }
 }
 
@@ -178,7 +153,7 @@ fn body_of(amount: u64) -> u64
 }
 
 // The interest of an item that is settled on a day: 27.
-fn interest_on(item: Item, day: u16) -> u64
+pub fn interest_on(item: Item, day: u16) -> u64
     requires { ⌜ (isPrice (item .kind) ≡ true → item .amount ≤ mostPrice) ⌝ }
     ensures { λ r. ⌜ r ≡ interestOn item day ⌝ }
 {

@@ -2,8 +2,8 @@
 use mathlib.Core.Path.{_≡_, refl, ap, sym, _∙_}
 use mathlib.Core.List.{List, [], _∷_, _++_, map, map-append}
 use mathlib.Core.Bool.{Bool, true, false}
-use Prim.Native.Nat.{ℕ, zero, suc, _-_, _≤_, _<_}
-use native.Mathlib.Nat.{le-of-lt, sub-zero, zero-sub, suc-sub-suc}
+use Prim.Native.Nat.{ℕ, zero, suc, _-_, min, _≤_, _<_}
+use native.Mathlib.Nat.{le-of-lt, min-eq-left, min-eq-right, sub-zero, zero-sub, suc-sub-suc}
 use native.Mathlib.Omega.{arith}
 use lib.Dec.{leb}
 use lib.ListN.{length, length-append, length-map, replicate, length-replicate, getD, set, take, drop, List·getD-append}
@@ -77,3 +77,11 @@ pub fill-next : {A : Type 0} (front rest : List A) (d : A) (i : ℕ) → i < len
 fill-next front rest d i h long =
     rw (drop-cons rest i d (omega arith), take-suc front i d h, append-snoc (take i front) (getD front i d) (drop (suc i) rest))
     (set-at (take i front) (getD rest i d) (drop (suc i) rest) (getD front i d) i (length-take-le i front (omega arith)))
+
+-- No more elements than there are.
+pub take-min : {A : Type 0} (n m : ℕ) (xs : List A) → length xs ≡ m → take (min n m) xs ≡ take n xs
+take-min n m xs l = go (leb n m) refl
+  where
+    go : (b : Bool) → leb n m ≡ b → take (min n m) xs ≡ take n xs
+    go true e = ap (λ k. take k xs) (min-eq-left (leb-true n m e))
+    go false e = ap (λ k. take k xs) (min-eq-right (le-of-lt (leb-false n m e))) ∙ sym (take-past n m xs l (le-of-lt (leb-false n m e)))

@@ -13,18 +13,19 @@ use Rattle.meter.specs.declared.Estimate.{Estimate}
 use Rattle.meter.specs.declared.Estimates.{Estimates}
 use Rattle.meter.specs.Sharing.{standing}
 use Rattle.ledger.specs.Entries.{EntryBounds}
-use Rattle.plan.specs.declared.Head.{Head}
+use Rattle.intake.specs.declared.Head.{Head}
 use Rattle.plan.specs.declared.Then.{Then}
 use Rattle.plan.specs.declared.Then.the-variants.{Goes, Stops, Ends}
-use Rattle.plan.specs.declared.Call.{Call}
-use Rattle.plan.specs.declared.Call.the-variants.{Opening, Reading, Missed, Absent, Exchange, Disconnection, Reconnection, Cancellation, Payment, StoppedCancellation}
-use Rattle.plan.specs.Limits.{mostMisses, mostVolume}
-use Rattle.plan.specs.Statuses.{isStopped, startOf}
-use Rattle.plan.specs.Closing.{daysOf}
-use Rattle.plan.specs.Refusals.{readingRefusal, missRefusal, firstRefusal}
-use Rattle.plan.specs.Plans.{HeadBounds, EstimateBounds, noEntry, changed, Room, missPlan, readPlan, passedPlan}
-use Rattle.plan.proofs.Passed.{begun, miss-passed, payment-passed}
-use Rattle.plan.proofs.Ready.{reading-ready, read-net-bounds, miss-ready}
+use Rattle.intake.specs.declared.Call.{Call}
+use Rattle.intake.specs.declared.Call.the-variants.{Opening, Reading, Missed, Absent, Exchange, Disconnection, Reconnection, Cancellation, Payment, StoppedCancellation}
+use Rattle.intake.specs.Limits.{mostMisses, mostVolume}
+use Rattle.intake.specs.Statuses.{isStopped, startOf}
+use Rattle.intake.specs.Periods.{daysOf}
+use Rattle.intake.specs.Refusals.{readingRefusal, missRefusal, firstRefusal}
+use Rattle.intake.specs.Heads.{HeadBounds, EstimateBounds}
+use Rattle.plan.specs.Plans.{noEntry, changed, Room, missPlan, readPlan, passedPlan}
+use Rattle.intake.proofs.Passed.{begun, miss-passed, payment-passed}
+use Rattle.closing.proofs.Ready.{reading-ready, read-net-bounds, miss-ready}
 
 -- What is asked of the ledger.
 none-within : EntryBounds noEntry

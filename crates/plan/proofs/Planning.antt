@@ -9,13 +9,14 @@ use borrow.Author.Tests.{eqb-true, eq-eqb, ne-eqb}
 use types.Run.{OneOf, miss}
 use denote.Enum.Declared.{tagOf}
 use Rattle.meter.specs.declared.Estimate.{Estimate}
-use Rattle.plan.specs.declared.Head.{Head}
-use Rattle.plan.specs.declared.Call.{Call}
-use Rattle.plan.specs.declared.Call.the-variants.{Opening, Reading, Missed, Absent, Exchange, Disconnection, Reconnection, Cancellation, Payment, StoppedCancellation}
+use Rattle.intake.specs.declared.Head.{Head}
+use Rattle.intake.specs.declared.Call.{Call}
+use Rattle.intake.specs.declared.Call.the-variants.{Opening, Reading, Missed, Absent, Exchange, Disconnection, Reconnection, Cancellation, Payment, StoppedCancellation}
 use Rattle.plan.specs.declared.Plan.{Plan}
-use Rattle.plan.specs.Refusals.{missRefusal, firstRefusal}
-use Rattle.plan.specs.Plans.{quietPlan, plannedAs, volumesAs, passedPlan, passedVolumes, planned, plannedVolumes, filledWith, missPlan, missedVolume, readPlanned, readVolumes, noReading, readingIn, noMiss, missIn, misses, reads}
-use Rattle.plan.proofs.Call.{the-type}
+use Rattle.intake.specs.Refusals.{missRefusal, firstRefusal}
+use Rattle.plan.specs.Plans.{quietPlan, plannedAs, volumesAs, passedPlan, passedVolumes, planned, plannedVolumes, missPlan, missedVolume, readPlanned, readVolumes, noReading, readingIn, noMiss, missIn, misses, reads}
+use Rattle.closing.specs.Closing.{filledWith}
+use Rattle.intake.proofs.Call.{the-type}
 
 -- The number that a refusal answered decides.
 pub plan-declined : {number refused : ℕ} → number ≡ refused → (number ≡ 0 → ⊥) → (passed : Plan) (h : Head)

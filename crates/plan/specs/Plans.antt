@@ -18,52 +18,24 @@ use Rattle.meter.specs.Sharing.{standing, finalVolumes}
 use Rattle.ledger.specs.declared.Entry.{Entry}
 use Rattle.ledger.specs.Limits.{lastCallDay}
 use Rattle.ledger.specs.Posting.{chargeOf, creditOf}
-use Rattle.plan.specs.declared.Status.{Status}
-use Rattle.plan.specs.declared.Status.the-variants.{Supplied, Stopped, Cancelled}
-use Rattle.plan.specs.declared.Head.{Head}
-use Rattle.plan.specs.declared.Call.{Call}
-use Rattle.plan.specs.declared.Call.the-variants.{Opening, Reading, Missed, Absent, Exchange, Disconnection, Reconnection, Cancellation, Payment, StoppedCancellation}
+use Rattle.intake.specs.declared.Status.{Status}
+use Rattle.intake.specs.declared.Status.the-variants.{Supplied, Stopped, Cancelled}
+use Rattle.intake.specs.declared.Head.{Head}
+use Rattle.intake.specs.declared.Call.{Call}
+use Rattle.intake.specs.declared.Call.the-variants.{Opening, Reading, Missed, Absent, Exchange, Disconnection, Reconnection, Cancellation, Payment, StoppedCancellation}
 use Rattle.plan.specs.declared.Change.{Change}
 use Rattle.plan.specs.declared.Change.the-variants.{Kept, Cleared, Added}
 use Rattle.plan.specs.declared.Then.{Then}
 use Rattle.plan.specs.declared.Then.the-variants.{Goes, Stops, Ends}
 use Rattle.plan.specs.declared.ClosingRead.{ClosingRead}
 use Rattle.plan.specs.declared.Miss.{Miss}
-use Rattle.plan.specs.declared.Figures.{Figures}
+use Rattle.closing.specs.declared.Figures.{Figures}
 use Rattle.plan.specs.declared.Plan.{Plan}
-use Rattle.plan.specs.Limits.{mostVolume, mostMisses, mostDays, mostCharge, fuelAllowed}
-use Rattle.plan.specs.Statuses.{isSupplied, isCancelled, startOf, stopOf}
-use Rattle.plan.specs.Closing.{daysOf, dayAfter, resumedStart, ofThisPeriod, netOf, storedEstimates}
-use Rattle.plan.specs.Refusals.{readingRefusal, firstRefusal}
-
--- What is known of the head of every whole account. A meter is known once there is supply.
-pub record MeterBounds (m : Meter) : Type 0 where
-  pub digits-within : Digits (m .digits)
-  pub dial-within : m .dial < span (m .digits)
-  pub pool-most : m .pool ≤ mostVolume
-
-pub record SuppliedBounds (h : Head) : Type 0 where
-  pub start-most : startOf (h .status) ≤ h .latest + 1
-  pub meter : MeterBounds (h .meter)
-
-pub record HeadBounds (h : Head) : Type 0 where
-  pub previous-most : h .meter .previous ≤ mostVolume
-  pub supplied : isSupplied (h .status) ≡ true → SuppliedBounds h
-
--- and of its estimates.
-pub record EstimateBounds (estimate : Estimate) : Type 0 where
-  pub days-least : 1 ≤ estimate .days
-  pub days-most : estimate .days ≤ mostDays
-  pub fuel-allowed : fuelAllowed (estimate .fuel) ≡ true
-  pub volume-most : estimate .volume ≤ mostVolume
-  pub charged-most : estimate .charged ≤ mostCharge
-
--- The estimates of a head: as many stand as it says.
-pub record EstimatesFit (h : Head) (estimates : Estimates) : Type 0 where
-  pub count-is : estimates .count ≡ h .standing
-  pub few : estimates .count ≤ mostMisses
-  pub long : length (estimates .periods) ≡ mostMisses
-  pub within : Every EstimateBounds (standing estimates)
+use Rattle.intake.specs.Limits.{mostVolume, mostMisses, mostDays, mostCharge, fuelAllowed}
+use Rattle.intake.specs.Statuses.{isSupplied, isCancelled, startOf, stopOf}
+use Rattle.intake.specs.Periods.{daysOf, dayAfter, resumedStart}
+use Rattle.closing.specs.Closing.{storedEstimates, finals, readFigures}
+use Rattle.intake.specs.Refusals.{readingRefusal, firstRefusal}
 
 -- What becomes of the estimates.
 abbrev pub changed : Change → Estimates → Estimates
@@ -157,20 +129,6 @@ abbrev pub missedVolume : Head → Bool → ℕ
 missedVolume h absent = cond absent 0 (h .meter .previous)
 
 -- 02, 06 and 08, over the estimates that stand.
-abbrev pub finals : Head → List Estimate → ℕ → List ℕ
-finals h estimates reading = finalVolumes estimates (poolTo (h .meter) reading)
-
-module _ (h : Head) (estimates : List Estimate) (day reading : ℕ) (fuel : Fuel) where
-  abbrev pub readPrice : ℕ
-  readPrice = priceOf (daysOf (startOf (h .status)) day) fuel (ofThisPeriod (finals h estimates reading))
-
-  abbrev pub readNet : ℤ
-  readNet = netOf estimates (poolTo (h .meter) reading) (finals h estimates reading) readPrice
-
-  abbrev pub readFigures : Figures
-  readFigures =
-      record { count = length (finals h estimates reading); volume = ofThisPeriod (finals h estimates reading); net = readNet }
-
 -- What a reading that worked out these figures plans.
 abbrev pub figuredPlan : Head → ℕ → ℕ → Then → Figures → Plan
 figuredPlan h day reading next f =
@@ -227,10 +185,6 @@ planned h estimates call = plannedAs (firstRefusal h call) (passedPlan h estimat
 
 unfoldable pub plannedVolumes : Head → List Estimate → Call → List ℕ
 plannedVolumes h estimates call = volumesAs (firstRefusal h call) (passedVolumes h estimates call)
-
--- Volumes in a lent array, from its start.
-abbrev pub filledWith : List ℕ → List ℕ → List ℕ
-filledWith volumes before = volumes ++ drop (length volumes) before
 
 -- 02, 06 and 08, and 03 and 04, by what they have in common.
 abbrev pub noReading : ClosingRead

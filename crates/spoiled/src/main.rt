@@ -6,6 +6,7 @@ mod new_accounts;
 
 use account::Account;
 use account::Outcome;
+use intake::Status;
 use ledger::Item;
 use ledger::Kind;
 use ledger::Ledger;
@@ -13,7 +14,6 @@ use libc::STDOUT_FILENO;
 use meter::Estimate;
 use meter::Estimates;
 use meter::Meter;
-use plan::Status;
 use tariff::Fuel;
 
 const FUEL: Fuel = Fuel {

@@ -1,11 +1,7 @@
--- Laws of lines and pieces.
-pub mod Feeding
+-- Laws of whole inputs.
 pub mod Lines
-pub mod Pieces
 pub mod Sums
+pub mod Pieces
 pub mod Working
-pub mod Reached
-pub mod Going
-pub mod Planning
-pub mod Entering
 pub mod Room
+pub mod Notices

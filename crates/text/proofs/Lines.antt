@@ -5,9 +5,10 @@ use mathlib.Core.List.{List, [], _∷_, _++_}
 use Prim.Native.Nat.{ℕ}
 use lib.Dec.{eqb}
 use Rattle.account.specs.declared.Account.{Account}
-use Rattle.wire.specs.Answers.{lineFeed}
+use Rattle.frames.specs.Digits.{lineFeed}
 use Rattle.text.specs.Lines.{linesFrom}
-use Rattle.text.specs.Output.{lineOutcome, answersOf, accountAfter}
+use Rattle.lines.specs.Line.{lineOutcome}
+use Rattle.text.specs.Output.{answersOf, accountAfter}
 use Rattle.text.specs.Pieces.{linesIn, partAfter}
 
 -- Of what came and what is still to come: the lines that ended, then those behind the part that is left.

@@ -11,17 +11,23 @@ use lib.Seq.{take-all, take-append-le, take-suc-set, length-take-le}
 use borrow.Author.Tests.{ltb-true, ltb-false, leb-true, leb-false, eqb-true, eqb-false}
 use Rattle.lists.specs.Joined.{joined}
 use Rattle.lists.proofs.Joined.{joined-behind}
+use Rattle.account.specs.declared.Account.{Account}
 use Rattle.account.specs.declared.Outcome.{Outcome}
 use Rattle.account.specs.Calls.{newAccount}
-use Rattle.wire.specs.Frames.{parsed}
-use Rattle.wire.specs.Answers.{lineFeed, answerLine, longestAnswer}
-use Rattle.wire.proofs.Frames.{too-long}
-use Rattle.text.specs.declared.State.{State}
+use Rattle.audit.specs.Claim.{start}
+use Rattle.frames.specs.Frames.{parsed}
+use Rattle.frames.specs.Digits.{lineFeed}
+use Rattle.answers.specs.Answers.{answerLine, longestAnswer}
+use Rattle.frames.proofs.Frames.{too-long}
+use Rattle.lines.specs.declared.State.{State}
 use Rattle.text.specs.Lines.{linesFrom, linesOf}
-use Rattle.text.specs.Output.{parsedOutcome, lineOutcome, answersOf, accountAfter, bill}
-use Rattle.text.specs.Feeding.{fresh, lineOf, kept, lineEnds, ended, Feeding, nothing, behind, feeding, finishing}
-use Rattle.text.specs.Pieces.{linesIn, partAfter, made, Holds, Stands, Follows, Piece, stateAfter, takenOf, writtenOf, AtEnd}
-use Rattle.text.proofs.Feeding.{feed-ends, finish-none, finish-line}
+use Rattle.lines.specs.Line.{parsedOutcome, lineOutcome}
+use Rattle.text.specs.Output.{answersOf, accountAfter, callsOf, bill}
+use Rattle.lines.specs.Feeding.{fresh, lineOf, kept, lineEnds, ended, Feeding, nothing, behind, feeding, finishing}
+use Rattle.text.specs.Pieces.{linesIn, partAfter, made, Holds, Stands, Follows, Piece, stateAfter, takenOf, writtenOf, AtEnd, Behind}
+use Rattle.feeding.specs.Reached.{Reached, Ready}
+use Rattle.lines.proofs.Feeding.{feed-ends, finish-none, finish-line}
+use Rattle.text.proofs.Sums.{account-run}
 use Rattle.text.proofs.Lines.{lines-split, lines-on, part-on, answers-behind, account-behind}
 
 pub holds-fresh : Holds fresh []
@@ -210,3 +216,13 @@ stands-all (piece ∷ pieces) seen out s w =
 
 pub in-pieces : (pieces : List Piece) (room : ℕ) → longestAnswer ≤ room → Ended (takenOf fresh pieces) (writtenOf fresh pieces) (finishing room (stateAfter fresh pieces))
 in-pieces pieces room r = stands-end (takenOf fresh pieces) (writtenOf fresh pieces) (stateAfter fresh pieces) room r (stands-all pieces [] [] fresh stands-start)
+
+-- The account that lines leave is reached, and a state behind some input can be fed.
+pub reached-lines : (a : Account) (lines : List (List ℕ)) → a ≡ accountAfter newAccount lines → Reached a
+reached-lines a lines e = record { calls = callsOf lines; account-is = e ∙ account-run lines start }
+
+behind-reached : {s : State} → Behind s → Reached (s .account)
+behind-reached {s} b = reached-lines (s .account) (linesIn [] (b .seen)) (b .follows .account-is)
+
+pub behind-ready : {s : State} → Behind s → Ready s
+behind-ready b = record { reached = behind-reached b; clear = b .follows .holds .clear }

@@ -16,28 +16,30 @@ use Rattle.meter.specs.Sharing.{finalVolumes, volumesOf}
 use Rattle.meter.proofs.Sharing.{final-length}
 use Rattle.account.specs.declared.Account.{Account}
 use Rattle.account.specs.declared.Answer.{Answer}
-use Rattle.plan.specs.declared.Call.{Call}
-use Rattle.plan.specs.declared.Call.the-variants.{Opening, Reading, Missed, Absent, Exchange, Disconnection, Reconnection, Cancellation, Payment, StoppedCancellation}
+use Rattle.intake.specs.declared.Call.{Call}
+use Rattle.intake.specs.declared.Call.the-variants.{Opening, Reading, Missed, Absent, Exchange, Disconnection, Reconnection, Cancellation, Payment, StoppedCancellation}
 use Rattle.meter.specs.Metering.{poolTo}
 use Rattle.account.specs.Calls.{standingEstimates, work}
 use Rattle.account.specs.Refusals.{refusal}
 use Rattle.account.specs.Outcomes.{outcome, accepted, declined}
 use Rattle.account.specs.Whole.{whole}
 use Rattle.account.proofs.Ready.{misses-most}
-use Rattle.wire.specs.declared.Parsed.{Parsed}
-use Rattle.wire.specs.declared.Parsed.the-variants.{Frame, NotAFrame}
-use Rattle.wire.specs.Digits.{bytes}
-use Rattle.wire.specs.Frames.{parsed}
-use Rattle.wire.specs.Answers.{lineFeed, answerHead, shown, answerAmounts, answerFrame, answerLine, longestAnswer}
-use Rattle.wire.proofs.Writing.{length-digits, length-head, length-amounts}
-use Rattle.text.specs.declared.State.{State}
+use Rattle.frames.specs.declared.Parsed.{Parsed}
+use Rattle.frames.specs.declared.Parsed.the-variants.{Frame, NotAFrame}
+use Rattle.frames.specs.Digits.{bytes, lineFeed}
+use Rattle.frames.specs.Frames.{parsed}
+use Rattle.answers.specs.Answers.{answerHead, shown, answerAmounts, answerFrame, answerLine, longestAnswer}
+use Rattle.frames.proofs.Digits.{length-digits}
+use Rattle.answers.proofs.Writing.{length-head, length-amounts}
+use Rattle.lines.specs.declared.State.{State}
 use Rattle.text.specs.Lines.{endsIn}
-use Rattle.text.specs.Output.{parsedOutcome, bill}
-use Rattle.text.specs.Feeding.{fresh, lineOf, kept, lineEnds, ended, Feeding, feeding, finishing}
-use Rattle.text.specs.Reached.{Reached}
-use Rattle.text.proofs.Feeding.{feed-ends, feed-keeps}
+use Rattle.lines.specs.Line.{parsedOutcome}
+use Rattle.text.specs.Output.{bill}
+use Rattle.lines.specs.Feeding.{fresh, lineOf, kept, lineEnds, ended, Feeding, feeding, finishing}
+use Rattle.feeding.specs.Reached.{Reached}
+use Rattle.lines.proofs.Feeding.{feed-ends, feed-keeps}
 use Rattle.text.proofs.Pieces.{kept-account, stands-start, stands-on, stands-end}
-use Rattle.text.proofs.Reached.{reached-whole, reached-new, reached-parsed}
+use Rattle.feeding.proofs.Reached.{reached-whole, reached-new, reached-parsed}
 
 -- At most six estimates and this period.
 final-few : (a : Account) (reading : ℕ) → whole a ≡ true → length (finalVolumes (standingEstimates a) (poolTo (a .meter) reading)) ≤ 7

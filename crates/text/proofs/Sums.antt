@@ -5,14 +5,15 @@ use Prim.Native.Nat.{ℕ, _+_}
 use native.Mathlib.Nat.{zero-add, add-zero}
 use native.Mathlib.Omega.{arith}
 use Rattle.lists.specs.Sum.{total}
-use Rattle.plan.specs.declared.Call.{Call}
+use Rattle.intake.specs.declared.Call.{Call}
 use Rattle.account.specs.Calls.{newAccount}
 use Rattle.audit.specs.Claim.{Run, start, step, run, finalVolume}
 use Rattle.audit.proofs.Theorem.{reconciled}
-use Rattle.wire.specs.declared.Parsed.{Parsed}
-use Rattle.wire.specs.declared.Parsed.the-variants.{Frame, NotAFrame}
-use Rattle.wire.specs.Frames.{parsed}
-use Rattle.text.specs.Output.{parsedOutcome, answersOf, accountAfter, callsIn, callsOf}
+use Rattle.frames.specs.declared.Parsed.{Parsed}
+use Rattle.frames.specs.declared.Parsed.the-variants.{Frame, NotAFrame}
+use Rattle.frames.specs.Frames.{parsed}
+use Rattle.lines.specs.Line.{parsedOutcome}
+use Rattle.text.specs.Output.{answersOf, accountAfter, callsIn, callsOf}
 use Rattle.text.specs.Pieces.{Sums}
 
 -- The account that lines leave is the one that their calls leave: a line that is no frame changes nothing.

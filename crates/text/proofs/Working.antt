@@ -12,13 +12,13 @@ use Rattle.lists.specs.Joined.{joined}
 use Rattle.lists.proofs.Joined.{joined-behind}
 use Rattle.account.specs.declared.Account.{Account}
 use Rattle.account.specs.Calls.{newAccount}
-use Rattle.wire.specs.Digits.{written}
-use Rattle.wire.specs.Answers.{answerLine, longestAnswer}
-use Rattle.wire.proofs.Writing.{written-behind}
-use Rattle.text.specs.declared.State.{State}
+use Rattle.frames.specs.Digits.{written}
+use Rattle.answers.specs.Answers.{answerLine, longestAnswer}
+use Rattle.answers.proofs.Writing.{written-behind}
+use Rattle.lines.specs.declared.State.{State}
 use Rattle.text.specs.Lines.{linesFrom, linesOf}
 use Rattle.text.specs.Output.{answersOf, accountAfter, bill, fittedAt}
-use Rattle.text.specs.Feeding.{fresh, feeding, finishing}
+use Rattle.lines.specs.Feeding.{fresh, feeding, finishing}
 use Rattle.text.specs.Pieces.{linesIn, partAfter, made, Follows}
 use Rattle.text.proofs.Lines.{lines-split, answers-behind}
 use Rattle.text.proofs.Pieces.{follows-start, stands-on, made-is, stands-end}

@@ -1,8 +1,4 @@
 -- From the bytes of a household's file to the bytes that the programs write.
 pub mod Lines
 pub mod Output
-pub mod Feeding
 pub mod Pieces
-pub mod Reached
-pub mod Going
-pub mod Working

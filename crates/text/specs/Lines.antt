@@ -3,7 +3,7 @@ use mathlib.Core.Bool.{cond}
 use mathlib.Core.List.{List, [], _∷_, _++_}
 use Prim.Native.Nat.{ℕ, suc}
 use lib.Dec.{eqb}
-use Rattle.wire.specs.Answers.{lineFeed}
+use Rattle.frames.specs.Digits.{lineFeed}
 
 -- The end of the input ends a line that has begun.
 abbrev pub lastLine : List ℕ → List (List ℕ)

@@ -8,25 +8,16 @@ use Rattle.lists.specs.Joined.{joined}
 use Rattle.ledger.specs.declared.Item.{Item}
 use Rattle.account.specs.declared.Account.{Account}
 use Rattle.account.specs.declared.Answer.{Answer}
-use Rattle.plan.specs.declared.Call.{Call}
-use Rattle.account.specs.declared.Outcome.{Outcome}
+use Rattle.intake.specs.declared.Call.{Call}
 use Rattle.account.specs.Calls.{newAccount}
-use Rattle.account.specs.Outcomes.{outcome, declined}
-use Rattle.wire.specs.declared.Parsed.{Parsed}
-use Rattle.wire.specs.declared.Parsed.the-variants.{Frame, NotAFrame}
-use Rattle.wire.specs.Digits.{written}
-use Rattle.wire.specs.Frames.{parsed}
-use Rattle.wire.specs.Answers.{answerLine}
-use Rattle.wire.specs.Notices.{noticeLine}
+use Rattle.frames.specs.declared.Parsed.{Parsed}
+use Rattle.frames.specs.declared.Parsed.the-variants.{Frame, NotAFrame}
+use Rattle.frames.specs.Digits.{written}
+use Rattle.frames.specs.Frames.{parsed}
+use Rattle.answers.specs.Answers.{answerLine}
+use Rattle.answers.specs.Notices.{noticeLine}
+use Rattle.lines.specs.Line.{lineOutcome}
 use Rattle.text.specs.Lines.{linesOf}
-
--- Number 40: not a frame, wrong length, other characters, empty line. It comes before 41.
-abbrev pub parsedOutcome : Account → Parsed → Outcome
-parsedOutcome a (Frame call) = outcome a call
-parsedOutcome a NotAFrame = declined a 40
-
-abbrev pub lineOutcome : Account → List ℕ → Outcome
-lineOutcome a line = parsedOutcome a (parsed line)
 
 -- Each line on the account that the line before left.
 unfoldable pub answersOf : Account → List (List ℕ) → List Answer

@@ -10,11 +10,12 @@ use Rattle.lists.specs.Joined.{joined}
 use Rattle.account.specs.Calls.{newAccount}
 use Rattle.audit.specs.Book.{Book, prices}
 use Rattle.audit.specs.Claim.{start, run, finalVolume, unpaidOn}
-use Rattle.wire.specs.Answers.{lineFeed, answerLine}
-use Rattle.text.specs.declared.State.{State}
+use Rattle.frames.specs.Digits.{lineFeed}
+use Rattle.answers.specs.Answers.{answerLine}
+use Rattle.lines.specs.declared.State.{State}
 use Rattle.text.specs.Lines.{linesOf}
 use Rattle.text.specs.Output.{answersOf, accountAfter, callsOf}
-use Rattle.text.specs.Feeding.{blankLine, lineOf, feeding}
+use Rattle.lines.specs.Feeding.{blankLine, lineOf, feeding}
 
 -- The lines that end in what came, behind the part of a line, and the part that it leaves.
 unfoldable pub linesIn : List ℕ → List ℕ → List (List ℕ)

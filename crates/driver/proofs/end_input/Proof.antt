@@ -4,10 +4,9 @@ use native.Mathlib.Omega.{arith}
 use lib.ListN.{length}
 use lib.Seq.{length-take-le}
 use borrow.Author.Needs.{needs}
-use Rattle.text.specs.declared.Fed.{Fed}
+use Rattle.lines.specs.declared.Fed.{Fed}
 use Rattle.text.specs.Pieces.{AtEnd}
-use Rattle.text.proofs.Pieces.{follows-end}
-use Rattle.text.proofs.Reached.{behind-ready}
+use Rattle.text.proofs.Pieces.{follows-end, behind-ready}
 use Rattle.driver.proofs.end_input.Statement.{statement}
 use Rattle.driver.proofs.end_input.Tie as tie
 

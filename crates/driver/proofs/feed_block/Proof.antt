@@ -4,13 +4,12 @@ use native.Mathlib.Omega.{arith}
 use mathlib.Core.Bool.{false≢true}
 use mathlib.Core.List.{List, _++_, append-assoc, append-nil}
 use lib.ListN.{length, take, drop, length-drop}
-use Rattle.text.specs.declared.Fed.{Fed}
-use Rattle.text.specs.Feeding.{feeding}
+use Rattle.lines.specs.declared.Fed.{Fed}
+use Rattle.lines.specs.Feeding.{feeding}
 use Rattle.text.specs.Pieces.{Follows, Behind}
-use Rattle.text.specs.Reached.{Ready}
-use Rattle.text.proofs.Pieces.{follows-on}
-use Rattle.text.proofs.Reached.{behind-ready}
-use Rattle.text.proofs.Feeding.{taken-some}
+use Rattle.feeding.specs.Reached.{Ready}
+use Rattle.text.proofs.Pieces.{follows-on, behind-ready}
+use Rattle.lines.proofs.Feeding.{taken-some}
 use lib.Seq.{length-take-le, take-all, take-add}
 use borrow.Author.Needs.{needs}
 use Rattle.driver.proofs.feed_block.Statement.{statement}

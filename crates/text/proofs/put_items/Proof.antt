@@ -1,4 +1,4 @@
-use Rattle.text.proofs.Feeding.{take-min}
+use Rattle.lists.proofs.Pad.{take-min, length-of-mapped}
 use native.Mathlib.Nat.{zero-add}
 use Rattle.ledger.specs.Posting.{blank}
 use mathlib.Core.Path.{_≡_, refl, ap, _∙_}
@@ -6,11 +6,10 @@ use Prim.Native.Nat.{_-_, _*_, min, _≤_}
 use native.Mathlib.Omega.{arith}
 use lib.ListN.{length, getD, take}
 use borrow.Author.Needs.{needs}
-use Rattle.lists.proofs.Pad.{length-of-mapped}
 use Rattle.lists.proofs.Joined.{joined-next, joined-taken}
-use Rattle.wire.specs.Digits.{written}
-use Rattle.wire.specs.Notices.{noticeLine}
-use Rattle.wire.proofs.Writing.{written-on, length-notice}
+use Rattle.frames.specs.Digits.{written}
+use Rattle.answers.specs.Notices.{noticeLine}
+use Rattle.answers.proofs.Writing.{written-on, length-notice}
 use Rattle.text.specs.Output.{noticesOf}
 use Rattle.text.proofs.put_items.Statement.{statement}
 use Rattle.text.proofs.put_items.Tie as tie

@@ -5,7 +5,7 @@ use lib.ListN.{length}
 use borrow.Author.Tests.{le-leb, lt-leb}
 use Rattle.lists.proofs.Pad.{length-of-mapped}
 use Rattle.text.specs.Output.{openNotices}
-use Rattle.text.proofs.Feeding.{notices-length}
+use Rattle.text.proofs.Notices.{notices-length}
 use borrow.Author.Needs.{needs}
 use Rattle.text.proofs.put_notices.Statement.{statement}
 use Rattle.text.proofs.put_notices.Tie as tie

@@ -10,7 +10,7 @@ use native.Mathlib.Numerals.{add-one}
 use lib.ListN.{length, getD, set, drop, length-set, drop-of-length-le}
 use lib.Seq.{drop-cons}
 use borrow.Author.Tests.{le-leb, lt-leb, not-true, not-false}
-use Rattle.wire.specs.Digits.{written}
+use Rattle.frames.specs.Digits.{written}
 use Rattle.text.proofs.put_part.Statement.{statement}
 use Rattle.text.proofs.put_part.Tie as tie
 

@@ -9,12 +9,12 @@ use native.Mathlib.Omega.{arith}
 use lib.ListN.{length, take, drop, length-drop}
 use lib.Seq.{take-all, length-take-le}
 use borrow.Author.Needs.{needs}
-use Rattle.wire.specs.Digits.{written}
-use Rattle.text.specs.declared.Fed.{Fed}
-use Rattle.text.specs.Feeding.{Feeding, feeding, finishing, fedOf}
-use Rattle.text.specs.Reached.{Ready}
-use Rattle.text.proofs.Reached.{behind-ready}
-use Rattle.text.proofs.Feeding.{taken-some}
+use Rattle.frames.specs.Digits.{written}
+use Rattle.lines.specs.declared.Fed.{Fed}
+use Rattle.lines.specs.Feeding.{Feeding, feeding, finishing, fedOf}
+use Rattle.feeding.specs.Reached.{Ready}
+use Rattle.text.proofs.Pieces.{behind-ready}
+use Rattle.lines.proofs.Feeding.{taken-some}
 use Rattle.text.proofs.Working.{shown, shown-fits, shown-part, made-within, Working, working-start, working-on, working-end}
 use Rattle.text.proofs.work_input.Statement.{statement}
 use Rattle.text.proofs.work_input.Tie as tie

@@ -9,14 +9,14 @@ use lib.ListN.{length, take, length-append}
 use lib.Seq.{length-take-le}
 use borrow.Author.Needs.{needs}
 use borrow.Author.Tests.{le-leb}
-use Rattle.wire.specs.Digits.{written}
-use Rattle.wire.proofs.Writing.{written-behind}
-use Rattle.text.specs.declared.State.{State}
-use Rattle.text.specs.declared.Fed.{Fed}
+use Rattle.frames.specs.Digits.{written}
+use Rattle.answers.proofs.Writing.{written-behind}
+use Rattle.lines.specs.declared.State.{State}
+use Rattle.lines.specs.declared.Fed.{Fed}
 use Rattle.text.specs.Output.{bill}
-use Rattle.text.specs.Feeding.{fresh, Feeding, feeding, finishing, fedOf}
-use Rattle.text.specs.Reached.{Ready}
-use Rattle.text.proofs.Reached.{reached-new}
+use Rattle.lines.specs.Feeding.{fresh, Feeding, feeding, finishing, fedOf}
+use Rattle.feeding.specs.Reached.{Ready}
+use Rattle.feeding.proofs.Reached.{reached-new}
 use Rattle.text.proofs.Room.{AllTaken, all-taken, bill-at-once}
 use Rattle.text.proofs.Working.{shown-part}
 use Rattle.text.proofs.write_at_once.Statement.{statement}

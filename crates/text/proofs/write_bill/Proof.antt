@@ -7,7 +7,7 @@ use native.Mathlib.Omega.{arith}
 use lib.ListN.{length}
 use borrow.Author.Needs.{needs}
 use borrow.Author.Tests.{le-leb, lt-leb}
-use Rattle.wire.specs.Digits.{written}
+use Rattle.frames.specs.Digits.{written}
 use Rattle.text.specs.declared.Billed.{Billed}
 use Rattle.text.specs.Lines.{linesOf}
 use Rattle.text.specs.Output.{bill, longestInput}

@@ -10,12 +10,14 @@ use Rattle.meter.specs.declared.Estimate.{Estimate}
 use Rattle.meter.specs.declared.Volumes.{Volumes}
 use Rattle.meter.specs.Sharing.{volumesOf}
 use Rattle.ledger.specs.Entries.{EntryBounds}
-use Rattle.plan.specs.declared.Head.{Head}
-use Rattle.plan.specs.declared.Call.{Call}
+use Rattle.intake.specs.declared.Head.{Head}
+use Rattle.intake.specs.declared.Call.{Call}
 use Rattle.plan.specs.declared.Plan.{Plan}
-use Rattle.plan.specs.Limits.{mostMisses}
-use Rattle.plan.specs.Refusals.{firstRefusal}
-use Rattle.plan.specs.Plans.{HeadBounds, EstimatesFit, Room, passedPlan, passedVolumes, planned, plannedVolumes, filledWith}
+use Rattle.intake.specs.Limits.{mostMisses}
+use Rattle.intake.specs.Refusals.{firstRefusal}
+use Rattle.intake.specs.Heads.{HeadBounds, EstimatesFit}
+use Rattle.plan.specs.Plans.{Room, passedPlan, passedVolumes, planned, plannedVolumes}
+use Rattle.closing.specs.Closing.{filledWith}
 use Rattle.plan.proofs.Planning.{planned-number, passed-plan, passed-volumes, passed-count}
 use Rattle.plan.proofs.Bounds.{entry-within, change-room}
 use Rattle.account.specs.declared.Account.{Account}

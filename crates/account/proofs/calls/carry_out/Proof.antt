@@ -63,8 +63,8 @@ returns c = λ final same.
     })
     (ap accepted (quiet-says p final (a .estimates) (a .ledger) quiet) ∙ sym (concluded-accepted a (workOf p final (a .estimates) (a .ledger)) none))
 
-enter-requires : tie.Need-enter-requires
-enter-requires c κs =
+enter-ledger-requires : tie.Need-enter-ledger-requires
+enter-ledger-requires c κs =
     let s : tie.Start = search in
     (whole-within (account s) (s .pre .0), (count-most (account s) (s .pre .0), s .pre .1 .1))
 
@@ -72,28 +72,28 @@ enter-requires c κs =
 returns-2 : tie.Need-returns-2
 returns-2 c = λ final same.
     let s : tie.Start = search in
-    let n : tie.After-enter = search in
+    let n : tie.After-enter-ledger = search in
     let e : tie.Else1 = search in
     let p = s .args .plan in
     let a = account s in
-    let number = n .enter .ensures .number-is ∙ sym (last-is s true (not-false (p .asks) (e .if1 .left)) final) in
-    c .decline .ensures ∙ sym (concluded-declined a (workOf p final (a .estimates) (a .ledger)) (n .enter .result .number) number (c .before .if2 .taken))
+    let number = n .enter-ledger .ensures .number-is ∙ sym (last-is s true (not-false (p .asks) (e .if1 .left)) final) in
+    c .decline .ensures ∙ sym (concluded-declined a (workOf p final (a .estimates) (a .ledger)) (n .enter-ledger .result .number) number (c .before .if2 .taken))
 
 -- The entry is made.
 returns-3 : tie.Need-returns-3
 returns-3 c = λ final same.
     let s : tie.Start = search in
-    let n : tie.After-enter = search in
+    let n : tie.After-enter-ledger = search in
     let e : tie.Else1 = search in
     let g : tie.After-changed = e .before .before .before .before in
     let m : tie.Else2 = search in
     let p = s .args .plan in
     let a = account s in
     let asks = not-false (p .asks) (e .if1 .left) in
-    let posted = n .enter .ensures in
+    let posted = n .enter-ledger .ensures in
     let z = sym (posted .number-is) ∙ m .if2 .left in
-    let ledger : n .enter .result .ledger ≡ stored (after s) = posted .ledger-is ∙ ap stored (next-asked (p .entry) (before s) z) in
-    let unpaid : n .enter .result .unpaid ≡ unpaidOf (standing (stored (after s)) .open-items) =
+    let ledger : n .enter-ledger .result .ledger ≡ stored (after s) = posted .ledger-is ∙ ap stored (next-asked (p .entry) (before s) z) in
+    let unpaid : n .enter-ledger .result .unpaid ≡ unpaidOf (standing (stored (after s)) .open-items) =
     posted .unpaid-is ∙ ap (λ (x : Standing). unpaidOf (x .open-items)) (next-asked (p .entry) (before s) z ∙ sym (standing-stored (after s) (places-few (p .entry) (before s) z)))
     in
     let interest = posted .interest-is (m .if2 .left) in
@@ -117,7 +117,7 @@ carry-out-spec =
     (λ c κs. let s : tie.Start = search in open-bounds (account s) (s .pre .0))  -- unpaid-requires
     (λ c κs. search needs)  -- answer-of-requires
     returns
-    enter-requires
+    enter-ledger-requires
     (λ c κs. search needs)  -- decline-requires
     returns-2
     (λ c κs. search needs)  -- account-of-requires-2

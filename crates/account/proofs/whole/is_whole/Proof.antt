@@ -2,7 +2,7 @@ use mathlib.Core.Path.{refl, sym, _∙_}
 use borrow.Author.Tests.{eq-eqb, ne-eqb, le-leb, lt-leb}
 use borrow.Author.Needs.{needs}
 use Rattle.account.specs.Whole.{wholeStatus}
-use Rattle.plan.specs.declared.Status.the-variants.{New, Supplied, Stopped, Cancelled}
+use Rattle.intake.specs.declared.Status.the-variants.{New, Supplied, Stopped, Cancelled}
 use Rattle.account.proofs.Facts.{whole-of}
 use Rattle.account.proofs.whole.is_whole.Statement.{statement}
 use Rattle.account.proofs.whole.is_whole.Tie as tie

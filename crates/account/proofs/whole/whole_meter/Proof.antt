@@ -2,7 +2,7 @@ use mathlib.Core.Path.{refl, sym, _∙_}
 use borrow.Author.Tests.{le-leb, lt-leb, not-true, not-false}
 use borrow.Author.Needs.{needs}
 use Rattle.account.specs.Whole.{wholeMeter}
-use Rattle.plan.proofs.Tests.{within-low, within-high}
+use Rattle.intake.proofs.Tests.{within-low, within-high}
 use Rattle.account.proofs.whole.whole_meter.Statement.{statement}
 use Rattle.account.proofs.whole.whole_meter.Tie as tie
 

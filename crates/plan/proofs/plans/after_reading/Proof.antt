@@ -8,7 +8,7 @@ use borrow.Author.Needs.{needs}
 use Rattle.ledger.specs.Posting.{chargeOf, creditOf}
 use Rattle.meter.specs.Metering.{readAt}
 use Rattle.plan.specs.declared.Change.the-variants.{Cleared}
-use Rattle.plan.proofs.Nets.{net-fits}
+use Rattle.closing.proofs.Nets.{net-fits}
 use Rattle.plan.proofs.plans.after_reading.Statement.{statement}
 use Rattle.plan.proofs.plans.after_reading.Tie as tie
 

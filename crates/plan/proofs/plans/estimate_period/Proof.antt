@@ -10,13 +10,13 @@ use borrow.Author.Needs.{needs}
 use Rattle.tariff.specs.Price.{Billable}
 use Rattle.tariff.proofs.Bounds.{price-most}
 use Rattle.meter.specs.Metering.{missedAt}
-use Rattle.plan.specs.declared.Status.the-variants.{Supplied}
+use Rattle.intake.specs.declared.Status.the-variants.{Supplied}
 use Rattle.plan.specs.declared.Change.the-variants.{Added}
-use Rattle.plan.specs.Limits.{mostCharge}
-use Rattle.plan.specs.Statuses.{startOf}
-use Rattle.plan.specs.Closing.{daysOf, dayAfter}
+use Rattle.intake.specs.Limits.{mostCharge}
+use Rattle.intake.specs.Statuses.{startOf}
+use Rattle.intake.specs.Periods.{daysOf, dayAfter}
 use Rattle.plan.specs.Plans.{missCharge}
-use Rattle.plan.proofs.Ready.{MissReady, miss-ready}
+use Rattle.closing.proofs.Ready.{MissReady, miss-ready}
 use Rattle.plan.proofs.plans.estimate_period.Statement.{statement}
 use Rattle.plan.proofs.plans.estimate_period.Tie as tie
 

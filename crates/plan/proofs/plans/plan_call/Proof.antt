@@ -2,13 +2,14 @@ use mathlib.Core.Path.{_≡_, sym, ap, _∙_}
 use mathlib.Core.Bool.{true, false}
 use mathlib.Core.List.{[]}
 use borrow.Author.Needs.{needs}
-use Rattle.plan.specs.declared.Head.{Head}
-use Rattle.plan.specs.declared.Call.{Call}
+use Rattle.intake.specs.declared.Head.{Head}
+use Rattle.intake.specs.declared.Call.{Call}
 use Rattle.plan.specs.declared.ClosingRead.{ClosingRead}
 use Rattle.plan.specs.declared.Miss.{Miss}
 use Rattle.plan.specs.declared.Plan.{Plan}
-use Rattle.plan.specs.Refusals.{missRefusal, firstRefusal}
-use Rattle.plan.specs.Plans.{plannedAs, missPlan, missedVolume, readPlanned, readVolumes, passedPlan, planned, plannedVolumes, filledWith, reads}
+use Rattle.intake.specs.Refusals.{missRefusal, firstRefusal}
+use Rattle.plan.specs.Plans.{plannedAs, missPlan, missedVolume, readPlanned, readVolumes, passedPlan, planned, plannedVolumes, reads}
+use Rattle.closing.specs.Closing.{filledWith}
 use Rattle.plan.proofs.Planning.{none-filled, reading-planned, miss-planned, some-closing}
 use Rattle.plan.proofs.plans.plan_call.Statement.{statement}
 use Rattle.plan.proofs.plans.plan_call.Tie as tie

@@ -4,7 +4,7 @@ use borrow.Author.Needs.{needs}
 use Rattle.meter.specs.Metering.{with}
 use Rattle.plan.specs.declared.Plan.{Plan}
 use Rattle.plan.specs.Plans.{quietPlan, headOn}
-use Rattle.plan.proofs.Ready.{ExchangeReady, exchange-ready}
+use Rattle.closing.proofs.Ready.{ExchangeReady, exchange-ready}
 use Rattle.plan.proofs.Planning.{plan-declined, plan-passed}
 use Rattle.plan.proofs.plans.plan_exchange.Statement.{statement}
 use Rattle.plan.proofs.plans.plan_exchange.Tie as tie

@@ -3,9 +3,10 @@ use Prim.Native.Nat.{ℕ, _≤_}
 use mathlib.Core.Bool.{Bool, true, false, cond}
 use native.Mathlib.Omega.{arith}
 use borrow.Author.Needs.{needs}
-use Rattle.plan.specs.declared.Head.{Head}
-use Rattle.plan.specs.Limits.{mostVolume}
-use Rattle.plan.specs.Plans.{HeadBounds, missedVolume, missPlan}
+use Rattle.intake.specs.declared.Head.{Head}
+use Rattle.intake.specs.Limits.{mostVolume}
+use Rattle.intake.specs.Heads.{HeadBounds}
+use Rattle.plan.specs.Plans.{missedVolume, missPlan}
 use Rattle.plan.proofs.Planning.{plan-declined, plan-passed}
 use Rattle.plan.proofs.plans.plan_miss.Statement.{statement}
 use Rattle.plan.proofs.plans.plan_miss.Tie as tie

@@ -1,7 +1,7 @@
 use mathlib.Core.Path.{_≡_, _∙_}
 use borrow.Author.Needs.{needs}
-use Rattle.plan.specs.Statuses.{isNew}
-use Rattle.plan.specs.Refusals.{dialRefusal}
+use Rattle.intake.specs.Statuses.{isNew}
+use Rattle.intake.specs.Refusals.{dialRefusal}
 use Rattle.plan.proofs.Planning.{plan-declined, plan-passed}
 use Rattle.plan.proofs.plans.plan_opening.Statement.{statement}
 use Rattle.plan.proofs.plans.plan_opening.Tie as tie

@@ -2,7 +2,8 @@ use mathlib.Core.Path.{_≡_, sym, ap, _∙_}
 use borrow.Author.Needs.{needs}
 use Rattle.meter.specs.Sharing.{standing}
 use Rattle.plan.specs.declared.ClosingRead.{ClosingRead}
-use Rattle.plan.specs.Plans.{readPlanned, readVolumes, filledWith}
+use Rattle.plan.specs.Plans.{readPlanned, readVolumes}
+use Rattle.closing.specs.Closing.{filledWith}
 use Rattle.plan.proofs.Planning.{reading-planned}
 use Rattle.plan.proofs.plans.plan_over.Statement.{statement}
 use Rattle.plan.proofs.plans.plan_over.Tie as tie

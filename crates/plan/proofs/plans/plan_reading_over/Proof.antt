@@ -5,9 +5,9 @@ use Rattle.lists.proofs.Pad.{length-take-most}
 use Rattle.meter.specs.Sharing.{standing}
 use borrow.Author.Needs.{needs}
 use Rattle.ledger.specs.Posting.{NetBounds}
-use Rattle.plan.specs.declared.Figures.{Figures}
+use Rattle.closing.specs.declared.Figures.{Figures}
 use Rattle.plan.specs.Plans.{figuredPlan}
-use Rattle.plan.proofs.Ready.{ReadingReady, reading-ready, read-net-bounds}
+use Rattle.closing.proofs.Ready.{ReadingReady, reading-ready, read-net-bounds}
 use Rattle.plan.proofs.Planning.{plan-declined, plan-passed, volumes-declined, volumes-passed}
 use Rattle.plan.proofs.plans.plan_reading_over.Statement.{statement}
 use Rattle.plan.proofs.plans.plan_reading_over.Tie as tie

@@ -1,10 +1,10 @@
 use mathlib.Core.Path.{_≡_, sym, ap, _∙_}
 use borrow.Author.Needs.{needs}
-use Rattle.plan.specs.Statuses.{isStopped, stopOf}
-use Rattle.plan.specs.Closing.{resumedStart}
-use Rattle.plan.specs.Refusals.{dialRefusal}
+use Rattle.intake.specs.Statuses.{isStopped, stopOf}
+use Rattle.intake.specs.Periods.{resumedStart}
+use Rattle.intake.specs.Refusals.{dialRefusal}
 use Rattle.plan.specs.Plans.{begunPlan}
-use Rattle.plan.proofs.Passed.{dial-passed}
+use Rattle.intake.proofs.Passed.{dial-passed}
 use Rattle.plan.proofs.Planning.{plan-declined, plan-passed}
 use Rattle.plan.proofs.plans.plan_reconnection.Statement.{statement}
 use Rattle.plan.proofs.plans.plan_reconnection.Tie as tie

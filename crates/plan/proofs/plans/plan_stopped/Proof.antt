@@ -1,8 +1,8 @@
 use mathlib.Core.Path.{_≡_, ap, _∙_}
 use borrow.Author.Needs.{needs}
-use Rattle.plan.specs.declared.Status.the-variants.{Cancelled}
-use Rattle.plan.specs.Statuses.{isStopped}
-use Rattle.plan.specs.Refusals.{begins}
+use Rattle.intake.specs.declared.Status.the-variants.{Cancelled}
+use Rattle.intake.specs.Statuses.{isStopped}
+use Rattle.intake.specs.Refusals.{begins}
 use Rattle.plan.specs.Plans.{askingPlan}
 use Rattle.plan.proofs.Planning.{plan-declined, plan-passed}
 use Rattle.plan.proofs.plans.plan_stopped.Statement.{statement}

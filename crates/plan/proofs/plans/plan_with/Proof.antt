@@ -5,7 +5,8 @@ use Prim.Native.Nat.{ℕ}
 use lib.ListN.{take}
 use borrow.Author.Needs.{needs}
 use Rattle.meter.specs.Sharing.{standing}
-use Rattle.plan.specs.Plans.{filledWith, reads}
+use Rattle.closing.specs.Closing.{filledWith}
+use Rattle.plan.specs.Plans.{reads}
 use Rattle.plan.proofs.Planning.{plan-alone, volumes-alone}
 use Rattle.plan.proofs.plans.plan_with.Statement.{statement}
 use Rattle.plan.proofs.plans.plan_with.Tie as tie

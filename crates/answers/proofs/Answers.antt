@@ -1,0 +1,51 @@
+-- Laws of answers. Assumes nothing.
+use mathlib.Core.Path.{_≡_, refl, sym, ap, _∙_}
+use mathlib.Core.Bool.{true, false, true≢false}
+use mathlib.Core.List.{List, [], _∷_, _++_}
+use Prim.Native.Nat.{ℕ, suc, _-_, _^_, _≤_, _<_}
+use native.Mathlib.Nat.{not-suc-le-zero}
+use native.Mathlib.Omega.{arith}
+use lib.Dec.{T}
+use lib.ListN.{length, take}
+use lib.Seq.{length-take-le}
+use lib.IntN.{ℤ, pos, negsuc, natAbs}
+use lib.Signed.{ltZ, nonNeg}
+use mir.Syntax.{w32}
+use mir.Val.{Fits, SFits, toZ, ofZ}
+use mir.Facts.{toZ-pos}
+use borrow.Author.Tests.{ltb-true}
+use Rattle.lists.specs.Pad.{pad}
+use Rattle.lists.proofs.Pad.{take-pad}
+use Rattle.frames.specs.Digits.{lineFeed}
+use Rattle.answers.specs.Answers.{twosComplement, volumesBytes, headBytes, amountsBytes, answerOf, answerLine}
+use Rattle.account.specs.Outcomes.{acceptance}
+
+-- A net below zero: its bits, turned round.
+pub record Turned (net : ℤ) : Type 0 where
+  pub is-natural : T (nonNeg (toZ w32 (4294967295 - ofZ w32 net)))
+  pub fits : Fits w32 (natAbs (toZ w32 (4294967295 - ofZ w32 net)))
+  pub back : 4294967295 - natAbs (toZ w32 (4294967295 - ofZ w32 net)) ≡ twosComplement net
+
+pub turned : (net : ℤ) → SFits w32 net → ltZ net (pos 0) ≡ true → Turned net
+turned (pos n) f e = absurd (not-suc-le-zero (ltb-true n 0 e))
+turned (negsuc n) f e =
+    let h : n < 2 ^ 31 = f .sfits in
+    let same : toZ w32 (4294967295 - (2 ^ 32 - suc n)) ≡ pos n = ap (toZ w32) (inner h) ∙ toZ-pos w32 h in
+    record { is-natural = rw same tt; fits = rw same (record { fits = omega (arith, h) }); back = rw same (omega (arith, h)) }
+  where
+    inner : n < 2 ^ 31 → 4294967295 - (2 ^ 32 - suc n) ≡ n
+    inner h = omega (arith, h)
+
+-- A net that isn't.
+pub as-it-is : (net : ℤ) → ltZ net (pos 0) ≡ false → natAbs net ≡ twosComplement net
+as-it-is (pos n) e = refl
+as-it-is (negsuc n) e = absurd (true≢false e)
+
+-- The volumes that an accepted call made final, lent with their number, are those that its answer holds.
+pub accepted-line : (estimated count : ℕ) (volumes : List ℕ) (net : ℤ) (interest unpaid credit : ℕ) → length volumes ≡ 7 → count ≤ 7 → answerLine (answerOf 0 estimated count volumes net interest unpaid credit) ≡ answerLine (acceptance estimated (take count volumes) net interest unpaid credit)
+unfolding answerLine
+accepted-line estimated count volumes net interest unpaid credit long few =
+    let final = take count volumes in
+    let count-is : count ≡ length final = sym (length-take-le count volumes (omega (arith, long, few))) in
+    let shown-is : final ≡ take (length final) (pad 7 0 final) = sym (take-pad 0 7 final) in
+    (λ i. (headBytes 0 estimated (count-is i) ++ volumesBytes (shown-is i) ++ amountsBytes net interest unpaid credit) ++ (lineFeed ∷ []))

@@ -1,0 +1,4 @@
+-- Laws of writing.
+pub mod Answers
+pub mod Writing
+pub mod Pairs

@@ -1,0 +1,3 @@
+-- Lines that go out: answers and notices.
+pub mod Answers
+pub mod Notices

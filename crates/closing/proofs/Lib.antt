@@ -1,0 +1,3 @@
+-- Laws of what a closing works out.
+pub mod Nets
+pub mod Ready

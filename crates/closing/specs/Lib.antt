@@ -1,0 +1,2 @@
+-- What a closing works out.
+pub mod Closing

@@ -1,0 +1,18 @@
+-- States that feeding leads to.
+use mathlib.Core.Path.{_≡_}
+use mathlib.Core.List.{List}
+use Rattle.account.specs.declared.Account.{Account}
+use Rattle.intake.specs.declared.Call.{Call}
+use Rattle.audit.specs.Claim.{start, run}
+use Rattle.lines.specs.declared.State.{State}
+use Rattle.lines.specs.Feeding.{blankLine}
+
+-- An account that calls from a new one lead to.
+pub record Reached (a : Account) : Type 0 where
+  pub calls : List Call
+  pub account-is : a ≡ run start calls .account
+
+-- A state that can be fed: its account is reached, and where no line has begun no character is kept.
+pub record Ready (s : State) : Type 0 where
+  pub reached : Reached (s .account)
+  pub clear : s .length ≡ 0 → s .line ≡ blankLine

@@ -1,0 +1,82 @@
+// A call, the head of the account that it comes to, and numbers 1 to 11, by which it is declined for what these two show.
+pub mod limits;
+pub mod refusals;
+pub mod statuses;
+
+use meter::Meter;
+use tariff::Fuel;
+
+// `start` is the first day of the period that runs, `stop` the day of the stop.
+pub enum Status {
+    New,
+    Supplied { start: u16 },
+    Stopped { stop: u16 },
+    Cancelled,
+}
+
+pub enum Call {
+    // 01
+    Opening {
+        day: u16,
+        reading: u32,
+        digits: u8,
+    },
+    // 02
+    Reading {
+        day: u16,
+        reading: u32,
+        fuel: Fuel,
+    },
+    // 03
+    Missed {
+        day: u16,
+        fuel: Fuel,
+    },
+    // 04
+    Absent {
+        day: u16,
+        fuel: Fuel,
+    },
+    // 05
+    Exchange {
+        day: u16,
+        old: u32,
+        new: u32,
+        digits: u8,
+    },
+    // 06
+    Disconnection {
+        day: u16,
+        reading: u32,
+        fuel: Fuel,
+    },
+    // 07
+    Reconnection {
+        day: u16,
+        reading: u32,
+        digits: u8,
+    },
+    // 08
+    Cancellation {
+        day: u16,
+        reading: u32,
+        fuel: Fuel,
+    },
+    // 09
+    Payment {
+        day: u16,
+        yen: u32,
+    },
+    // 0a
+    StoppedCancellation {
+        day: u16,
+    },
+}
+
+// The numbers of an account without its estimates and its ledger. `latest` is the day of the latest accepted call, `standing` how many estimates stand.
+pub struct Head {
+    pub status: Status,
+    pub latest: u16,
+    pub meter: Meter,
+    pub standing: usize,
+}

@@ -1,0 +1,54 @@
+-- Items in three lanes of numbers: what is unpaid, the amount, and a label of obligation day, due day and kind.
+use mathlib.Core.Path.{_≡_}
+use mathlib.Core.Bool.{cond}
+use mathlib.Core.List.{List, [], _∷_}
+use Prim.Native.Nat.{ℕ, _+_, _*_, _/_, _%_, _≤_}
+use lib.Dec.{ltb}
+use lib.ListN.{length}
+use Rattle.ledger.specs.declared.Kind.{Kind}
+use Rattle.ledger.specs.declared.Kind.the-variants.{Interest, Price}
+use Rattle.ledger.specs.declared.Item.{Item}
+use Rattle.ledger.specs.declared.Entry.{Entry}
+use Rattle.ledger.specs.declared.Queue.{Queue}
+use Rattle.ledger.specs.Limits.{capacity, lanePlaces, mostEnd}
+use Rattle.ledger.specs.Entries.{asked, numberOf, next, interestPosted}
+use Rattle.ledger.specs.Numbers.{lying, Lies}
+use Rattle.ledger.specs.declared.Entered.{Entered}
+
+abbrev pub kindLabel : Kind → ℕ
+kindLabel Interest = 0
+kindLabel Price = 4294967296
+
+unfoldable pub labelOf : Item → ℕ
+labelOf item = item .obligation + item .due * 65536 + kindLabel (item .kind)
+
+unfoldable pub itemOf : ℕ → ℕ → ℕ → Item
+itemOf unpaid amount label =
+    record {
+      amount = amount;
+      unpaid = unpaid;
+      obligation = label % 65536;
+      due = label / 65536 % 65536;
+      kind = cond (ltb label 4294967296) Interest Price;
+    }
+
+abbrev pub rows : List ℕ → List ℕ → List ℕ → List Item
+rows (u ∷ us) (a ∷ more) (l ∷ ls) = itemOf u a l ∷ rows us more ls
+rows [] more ls = []
+rows (u ∷ us) [] ls = []
+rows (u ∷ us) (a ∷ more) [] = []
+
+-- Each lane has all its places.
+pub record Long (us bs ls : List ℕ) : Type 0 where
+  pub unpaid-long : length us ≡ lanePlaces
+  pub amount-long : length bs ≡ lanePlaces
+  pub label-long : length ls ≡ lanePlaces
+
+-- An entry is worked on a queue among items: the queue and the items after it.
+pub record Worked (before : List Item) (q : Queue) (e : Entry) (after : List Item) (r : Entered) : Type 0 where
+  pub number-is : r .number ≡ numberOf (asked e (lying before q))
+  pub stands : lying after (r .queue) ≡ next e (lying before q)
+  pub lies : Lies after (r .queue)
+  pub interest-is : r .number ≡ 0 → r .interest ≡ interestPosted e (lying before q)
+  pub few : r .queue .count ≤ capacity
+  pub room : r .queue .front + r .queue .count ≤ mostEnd

@@ -1,0 +1,2 @@
+-- Items in lanes.
+pub mod Lanes

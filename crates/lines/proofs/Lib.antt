@@ -1,0 +1,3 @@
+-- Laws of feeding.
+pub mod Feeding
+pub mod Going

@@ -1,0 +1,69 @@
+-- An input that comes in pieces: what is kept between them, and what a piece makes of it.
+use mathlib.Core.Bool.{cond}
+use mathlib.Core.List.{List, [], _∷_, _++_}
+use Prim.Native.Nat.{ℕ, suc, _+_, _-_}
+use lib.Dec.{eqb, ltb}
+use lib.ListN.{length, set, take, replicate}
+use Rattle.account.specs.declared.Account.{Account}
+use Rattle.account.specs.declared.Outcome.{Outcome}
+use Rattle.account.specs.Calls.{newAccount}
+use Rattle.frames.specs.Digits.{lineFeed}
+use Rattle.answers.specs.Answers.{answerLine, longestAnswer}
+use Rattle.lines.specs.declared.State.{State}
+use Rattle.lines.specs.declared.Fed.{Fed}
+use Rattle.lines.specs.Line.{lineOutcome}
+
+-- The longest frame is 30 characters; of a longer line the first 31 are kept, enough to know that it is none.
+abbrev pub keptMost : ℕ
+keptMost = 31
+
+abbrev pub blankLine : List ℕ
+blankLine = replicate keptMost 0
+
+-- No line has begun.
+abbrev pub between : Account → State
+between a = record { account = a; length = 0; line = blankLine }
+
+abbrev pub fresh : State
+fresh = between newAccount
+
+-- The part of a line that came.
+abbrev pub lineOf : State → List ℕ
+lineOf s = take (s .length) (s .line)
+
+abbrev pub kept : State → ℕ → State
+kept s c = cond (ltb (s .length) keptMost) (record { account = s .account; length = suc (s .length); line = set (s .line) (s .length) c }) s
+
+abbrev pub lineEnds : State → Outcome
+lineEnds s = lineOutcome (s .account) (lineOf s)
+
+-- A line that has ended leaves no trace.
+abbrev pub ended : State → State
+ended s = between (lineEnds s .account)
+
+-- What a piece makes: the state behind it, what is written, how many bytes of the piece were taken.
+pub record Feeding : Type 0 where
+  pub state : State
+  pub output : List ℕ
+  pub taken : ℕ
+
+abbrev pub nothing : State → Feeding
+nothing s = record { state = s; output = []; taken = 0 }
+
+abbrev pub behind : List ℕ → Feeding → Feeding
+behind xs f = record { state = f .state; output = xs ++ f .output; taken = suc (f .taken) }
+
+-- Byte by byte; before a line's end that the room left might not hold, it stops.
+unfoldable pub feeding : ℕ → State → List ℕ → Feeding
+feeding room s [] = nothing s
+feeding room s (c ∷ cs) =
+    cond (eqb c lineFeed)
+    (cond (ltb room longestAnswer) (nothing s) (behind (answerLine (lineEnds s .answer)) (feeding (room - length (answerLine (lineEnds s .answer))) (ended s) cs)))
+    (behind [] (feeding room (kept s c) cs))
+
+abbrev pub fedOf : Feeding → Fed
+fedOf f = record { state = f .state; taken = f .taken; written = length (f .output) }
+
+-- The end of the input ends a line that has begun, as an LF would.
+unfoldable pub finishing : ℕ → State → Feeding
+finishing room s = cond (eqb (s .length) 0) (nothing s) (feeding room s (lineFeed ∷ []))

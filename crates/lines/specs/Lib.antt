@@ -1,0 +1,4 @@
+-- The lines of a household's file, in pieces.
+pub mod Line
+pub mod Feeding
+pub mod Going
