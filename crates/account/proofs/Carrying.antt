@@ -5,7 +5,7 @@ use mathlib.Core.List.{List}
 use Prim.Native.Nat.{ℕ, _≤_}
 use native.Mathlib.Omega.{arith}
 use lib.ListN.{length, take}
-use borrow.Author.Tests.{le-leb, ne-eqb}
+use borrow.Author.Tests.{le-leb}
 use Rattle.meter.specs.declared.Estimates.{Estimates}
 use Rattle.meter.specs.Sharing as Sharing
 use Rattle.ledger.specs.declared.Entry.{Entry}

@@ -1,16 +1,12 @@
 -- What a call comes to, by the checks that decide it. Assumes nothing.
 use mathlib.Core.Path.{_≡_, refl}
 use mathlib.Core.Bool.{true, false}
-use Prim.Native.Nat.{ℕ, _≤_}
+use Prim.Native.Nat.{ℕ}
 use native.Mathlib.Omega.{arith}
-use borrow.Author.Tests.{leb-true, eq-eqb, ne-eqb, lt-ltb}
-use Rattle.ledger.specs.declared.Ledger.{Ledger}
+use borrow.Author.Tests.{eq-eqb, ne-eqb, lt-ltb}
 use Rattle.account.specs.declared.Account.{Account}
 use Rattle.intake.specs.declared.Call.{Call}
-use Rattle.account.specs.Limits.{itemsAllowed, creditAllowed}
-use Rattle.intake.specs.Refusals.{unless, firstRefusal}
-use Rattle.intake.proofs.Passed.{passes}
-use Rattle.ledger.specs.Limits.{capacity}
+use Rattle.intake.specs.Refusals.{firstRefusal}
 use Rattle.account.specs.Calls.{headOf, Work, work}
 use Rattle.account.specs.Whole.{whole}
 use Rattle.account.specs.Refusals.{lastRefusal, refusal}

@@ -3,7 +3,7 @@ use mathlib.Core.Path.{_≡_, refl, ap}
 use mathlib.Core.Logic.{_⊎_}
 use mathlib.Core.Bool.{Bool, true, false, cond, _&&_, _||_, not, false≢true}
 use mathlib.Core.List.{List}
-use Prim.Native.Nat.{ℕ, _+_, _%_, _≤_, _<_}
+use Prim.Native.Nat.{ℕ, _+_, _≤_, _<_}
 use native.Mathlib.Omega.{arith}
 use lib.Dec.{leb, eqb}
 use borrow.Author.Tests.{leb-true, le-leb, ltb-true, lt-ltb, eqb-true, eq-eqb}
@@ -20,7 +20,7 @@ use Rattle.intake.specs.declared.Status.{Status}
 use Rattle.intake.specs.declared.Status.the-variants.{New, Supplied, Stopped, Cancelled}
 use Rattle.account.specs.declared.Account.{Account}
 use Rattle.intake.specs.Limits.{mostDays, mostCharge, mostVolume, mostMisses, within, fuelAllowed, dayAllowed, digitsAllowed, onDial, volumeAllowed, missesAllowed}
-use Rattle.intake.specs.Statuses.{isNew, isSupplied, isStopped, isCancelled, startOf}
+use Rattle.intake.specs.Statuses.{isNew, isSupplied, startOf}
 use Rattle.intake.specs.Heads.{EstimateBounds}
 use Rattle.intake.proofs.Tests.{and-left, and-right, and-intro, within-low, within-high, within-intro, either-zero, zero-either}
 use Rattle.account.specs.Limits.{lastDueDay, itemsAllowed, creditAllowed}

@@ -1,6 +1,6 @@
 -- A new account as made is the new account. Assumes nothing.
 use mathlib.Core.Path.{_≡_, refl, sym, ap, _∙_}
-use mathlib.Core.Bool.{Bool, true, false, not, _&&_, false≢true}
+use mathlib.Core.Bool.{Bool, true, false, _&&_, false≢true}
 use lib.Dec.{eqb}
 use borrow.Author.Tests.{eqb-true}
 use Rattle.lists.specs.Every.{same}

@@ -1,7 +1,6 @@
 -- What a whole account lends to a call: a head, estimates and a ledger within their bounds. Assumes nothing.
 use mathlib.Core.Path.{_≡_, refl, sym, ap, subst, _∙_}
-use mathlib.Core.Bool.{true, false≢true}
-use mathlib.Core.List.{List}
+use mathlib.Core.Bool.{true}
 use Prim.Native.Nat.{ℕ, _≤_}
 use native.Mathlib.Nat.{le-trans}
 use native.Mathlib.Omega.{arith}
@@ -13,7 +12,7 @@ use Rattle.meter.specs.declared.Estimates.{Estimates}
 use Rattle.meter.specs.declared.Meter.{Meter}
 use Rattle.ledger.specs.declared.Item.{Item}
 use Rattle.ledger.specs.declared.Ledger.{Ledger}
-use Rattle.ledger.specs.Limits.{capacity, mostCredit}
+use Rattle.ledger.specs.Limits.{capacity}
 use Rattle.ledger.specs.Posting.{Standing, standing, stored, ItemBounds, OpenBounds}
 use Rattle.ledger.specs.Entries.{Within}
 use Rattle.ledger.proofs.Bounds.{standing-stored}

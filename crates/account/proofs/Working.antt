@@ -1,13 +1,11 @@
 -- A plan comes to the work of its call. Assumes nothing.
-use mathlib.Core.Path.{_≡_, refl, sym, ap, _∙_}
+use mathlib.Core.Path.{_≡_, refl, sym, ap}
 use mathlib.Core.Bool.{Bool, true, false, cond}
 use mathlib.Core.List.{List, [], _++_}
-use Prim.Native.Nat.{ℕ, _+_, _-_, _≤_}
+use Prim.Native.Nat.{ℕ}
 use native.Mathlib.Nat.{add-zero, zero-add}
-use native.Mathlib.Omega.{arith}
 use lib.IntN.{ℤ, pos}
-use lib.ListN.{length, take, drop, replicate}
-use borrow.Author.Tests.{eq-eqb}
+use lib.ListN.{length, replicate}
 use Rattle.lists.proofs.Pad.{drop-replicate}
 use Rattle.tariff.specs.declared.Fuel.{Fuel}
 use Rattle.meter.specs.declared.Estimates.{Estimates}
@@ -15,10 +13,7 @@ use Rattle.meter.specs.declared.Volumes.{Volumes}
 use Rattle.meter.specs.Sharing.{volumesOf}
 use Rattle.ledger.specs.declared.Ledger.{Ledger}
 use Rattle.ledger.specs.Posting.{Standing, standing, stored, closed, heldPosted, chargeOf, creditOf}
-use Rattle.ledger.specs.declared.Entry.{Entry}
-use Rattle.ledger.specs.Limits.{capacity}
-use Rattle.ledger.specs.Entries.{taken, asked, numberOf, next, interestPosted}
-use Rattle.ledger.proofs.Within.{number-passes}
+use Rattle.ledger.specs.Entries.{taken, asked, next, interestPosted}
 use Rattle.ledger.proofs.Posting.{closed-with-none}
 use Rattle.intake.specs.declared.Call.{Call}
 use Rattle.intake.specs.declared.Call.the-variants.{Opening, Reading, Missed, Absent, Exchange, Disconnection, Reconnection, Cancellation, Payment, StoppedCancellation}

@@ -5,7 +5,7 @@ use Prim.Native.Nat.{ℕ, zero, suc, _+_, _-_, _/_, _%_, _≤_, _<_}
 use native.Mathlib.Nat.{add-zero, add-suc, suc-add, not-suc-le-zero, zero-div, zero-mod}
 use native.Mathlib.Omega.{arith}
 use native.Mathlib.Numerals.{add-one}
-use lib.ListN.{length, set, replicate, length-append, replicate-append-replicate}
+use lib.ListN.{length, set, replicate, replicate-append-replicate}
 use lib.Seq.{set-comm}
 use Rattle.frames.specs.Digits.{glyph, digits, bytes, written, lineFeed}
 use Rattle.frames.proofs.Digits.{length-digits, length-behind}

@@ -4,7 +4,6 @@ use Prim.Native.Nat.{ℕ, suc, _-_, _^_}
 use lib.IntN.{ℤ, pos, negsuc}
 use lib.ListN.{take}
 use Rattle.lists.specs.Joined.{joined}
-use Rattle.meter.specs.Sharing.{volumesOf}
 use Rattle.account.specs.declared.Answer.{Answer}
 use Rattle.frames.specs.Digits.{lineFeed, bytes}
 

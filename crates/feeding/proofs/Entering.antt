@@ -1,7 +1,7 @@
 -- A line's plan, entered: what comes of it is the outcome of the line. Assumes nothing.
 use mathlib.Core.Path.{_≡_, refl, sym, ap, subst, _∙_}
 use mathlib.Core.Bool.{Bool, true, false, cond}
-use mathlib.Core.List.{List, [], _∷_, _++_}
+use mathlib.Core.List.{List, [], _∷_}
 use Prim.Native.Nat.{ℕ, _+_, _-_, _≤_}
 use native.Mathlib.Omega.{arith}
 use lib.Dec.{eqb}
@@ -29,7 +29,7 @@ use Rattle.intake.specs.Limits.{mostMisses}
 use Rattle.closing.specs.Closing.{storedEstimates, filledWith}
 use Rattle.intake.specs.Refusals.{firstRefusal}
 use Rattle.intake.specs.Heads.{HeadBounds, EstimatesFit}
-use Rattle.plan.specs.Plans.{changed, Room, passedPlan, passedVolumes, planned, plannedVolumes}
+use Rattle.plan.specs.Plans.{changed, Room, passedPlan, passedVolumes}
 use Rattle.plan.proofs.Planning.{planned-number, passed-plan, passed-volumes, passed-count}
 use Rattle.plan.proofs.Bounds.{entry-within, change-room}
 use Rattle.account.specs.declared.Account.{Account}

@@ -7,7 +7,6 @@ use calendar::FoundDay;
 use libc::STDOUT_FILENO;
 use meter::Estimate;
 use meter::Estimates;
-use meter::Volumes;
 use tariff::Fuel;
 
 // k is 0 at these prices.

@@ -7,7 +7,7 @@ use native.Mathlib.Nat.{suc-ne-zero, suc-inj, add-comm}
 use native.Mathlib.Omega.{arith}
 use lib.Dec.{ltb}
 use lib.ListN.{length, getD, set, take, drop, length-drop}
-use lib.Seq.{set-getD, set-at, getD-append-add, length-take-le, take-suc, drop-cons, getD-drop, append-snoc}
+use lib.Seq.{set-getD, getD-append-add, length-take-le, getD-drop}
 use borrow.Author.Tests.{lt-ltb, le-ltb}
 use Rattle.lists.proofs.Pad.{fill-next}
 use Rattle.ledger.specs.Limits.{lanePlaces}

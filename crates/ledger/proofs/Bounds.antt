@@ -1,10 +1,9 @@
 -- What a ledger holds: what stands on it, and its bounds at each open item. Assumes nothing.
-use mathlib.Core.Path.{_≡_, sym, subst}
+use mathlib.Core.Path.{_≡_}
 use Prim.Native.Nat.{ℕ, _≤_, _<_}
 use native.Mathlib.Omega.{arith}
 use lib.ListN.{length, getD, take}
 use lib.Seq.{getD-take, length-take-le, take-all}
-use Rattle.lists.specs.Every.{Every}
 use Rattle.lists.proofs.Every.{every-at}
 use Rattle.lists.proofs.Pad.{take-pad}
 use Rattle.ledger.specs.declared.Ledger.{Ledger}

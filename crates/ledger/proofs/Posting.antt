@@ -6,7 +6,7 @@ use Prim.Native.Nat.{ℕ, _+_, _-_, _≤_, _<_}
 use native.Mathlib.Nat.{le-refl, add-assoc, add-zero, sub-zero, eq-zero-or-pos}
 use native.Mathlib.Omega.{arith}
 use lib.IntN.{pos}
-use lib.ListN.{length, length-append}
+use lib.ListN.{length}
 use borrow.Author.Tests.{le-leb, lt-leb, lt-ltb}
 use Rattle.lists.specs.Every.{Every}
 use Rattle.lists.proofs.Every.{every-append}
@@ -17,7 +17,7 @@ use Rattle.ledger.specs.Interest.{interestOn}
 use Rattle.ledger.specs.Settling.{reduced, settle}
 use Rattle.ledger.specs.Posting.{Standing, newItem, entered, post, closed, heldPosted, Ready}
 use Rattle.ledger.proofs.Interest.{none-in-time}
-use Rattle.ledger.proofs.Settling.{Once, twice-once, left-or-none, settle-keeps, open-most}
+use Rattle.ledger.proofs.Settling.{Once, twice-once, left-or-none, settle-keeps}
 
 -- Posting twice on one day is posting once.
 pub post-post : (day first more : ℕ) (items behind : List Item) (s : Standing) → post day more behind (post day first items s) ≡ post day (first + more) (items ++ behind) s

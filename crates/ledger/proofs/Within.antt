@@ -1,26 +1,21 @@
 -- What keeps an entry's numbers within their bounds. Assumes nothing.
 use mathlib.Core.Path.{_≡_, refl}
-use mathlib.Core.Logic.{⊎-elim}
 use mathlib.Core.Bool.{Bool, true, false, cond}
-use mathlib.Core.List.{List, [], _∷_, _++_}
-use Prim.Native.Nat.{ℕ, _+_, _-_, _*_, _≤_, _<_}
-use native.Mathlib.Nat.{suc-mul, suc-ne-zero, eq-zero-or-pos}
+use mathlib.Core.List.{List, [], _∷_}
+use Prim.Native.Nat.{ℕ, _*_, _≤_}
+use native.Mathlib.Nat.{suc-mul, suc-ne-zero}
 use native.Mathlib.Omega.{arith}
 use lib.Dec.{leb}
-use lib.ListN.{length, length-append}
+use lib.ListN.{length}
 use borrow.Author.Tests.{leb-true}
 use Rattle.lists.specs.Every.{Every}
-use Rattle.lists.proofs.Every.{every-append, every-map}
-use Rattle.ledger.specs.declared.Kind.{Kind}
+use Rattle.lists.proofs.Every.{every-map}
 use Rattle.ledger.specs.declared.Item.{Item}
-use Rattle.ledger.specs.Limits.{lastCallDay, capacity, mostPrice, mostInterest, mostArisen, mostCredit}
-use Rattle.ledger.specs.Interest.{isPrice, interestOn}
-use Rattle.ledger.specs.Settling.{reduced, unpaidOf}
-use Rattle.ledger.specs.Posting.{Standing, entered, post, ItemBounds}
+use Rattle.ledger.specs.Limits.{capacity, mostInterest, mostCredit}
+use Rattle.ledger.specs.Settling.{unpaidOf}
+use Rattle.ledger.specs.Posting.{ItemBounds}
 use Rattle.ledger.specs.Entries.{limitNumber}
-use Rattle.ledger.proofs.Interest.{interest-most}
-use Rattle.ledger.proofs.Settling.{settle-keeps, arisen-most}
-use Rattle.ledger.proofs.Posting.{Owing, entered-none, entered-some}
+use Rattle.ledger.proofs.Posting.{Owing}
 
 pub owing : (items : List Item) → Every ItemBounds items → Owing items
 owing items w = every-map ItemBounds (λ item. 1 ≤ item .unpaid) (λ item b. b .unpaid-least) items w

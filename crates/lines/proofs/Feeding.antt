@@ -2,16 +2,14 @@
 use mathlib.Core.Path.{_≡_, refl, sym, ap, _∙_}
 use mathlib.Core.Bool.{Bool, true, false}
 use mathlib.Core.List.{List, [], _∷_}
-use Prim.Native.Nat.{ℕ, suc, _+_, _-_, _≤_, _<_}
+use Prim.Native.Nat.{ℕ, _+_, _-_, _≤_, _<_}
 use native.Mathlib.Nat.{not-suc-le-zero, zero-add, add-zero}
 use native.Mathlib.Omega.{arith}
 use native.Mathlib.Numerals.{add-one}
 use lib.Dec.{eqb}
-use lib.ListN.{length, getD, set, take, drop, length-append, drop-of-length-le}
-use lib.Seq.{drop-cons}
+use lib.ListN.{length, set, length-append}
 use borrow.Author.Tests.{eq-eqb, ne-eqb, lt-ltb, le-ltb}
 use Rattle.account.specs.declared.Account.{Account}
-use Rattle.account.specs.declared.Outcome.{Outcome}
 use Rattle.frames.specs.Digits.{written, lineFeed}
 use Rattle.answers.specs.Answers.{answerLine, longestAnswer}
 use Rattle.answers.proofs.Writing.{written-behind}

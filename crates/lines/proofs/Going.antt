@@ -6,7 +6,7 @@ use Prim.Native.Nat.{ℕ, suc, _+_, _-_, _≤_, _<_}
 use native.Mathlib.Nat.{zero-add, add-zero, add-suc, suc-add}
 use native.Mathlib.Omega.{arith}
 use native.Mathlib.Numerals.{add-one}
-use lib.ListN.{length, getD, set, take, drop, replicate, length-drop, take-append-drop, drop-of-length-le}
+use lib.ListN.{length, getD, set, take, drop, length-drop, take-append-drop, drop-of-length-le}
 use lib.Seq.{sets, sets-eq, take-at, drop-drop, drop-cons, length-take-le}
 use lib.Dec.{leb}
 use borrow.Author.Tests.{ne-eqb, lt-ltb, le-ltb, leb-true, leb-false}
@@ -17,7 +17,7 @@ use Rattle.account.specs.declared.Outcome.{Outcome}
 use Rattle.intake.specs.declared.Call.{Call}
 use Rattle.frames.specs.declared.Parsed.{Parsed}
 use Rattle.frames.specs.declared.Parsed.the-variants.{Frame, NotAFrame}
-use Rattle.frames.specs.Digits.{isDigit, written, lineFeed}
+use Rattle.frames.specs.Digits.{isDigit, written}
 use Rattle.frames.specs.Frames.{parsed}
 use Rattle.answers.specs.Answers.{answerLine, longestAnswer}
 use Rattle.frames.proofs.Frames.{too-long, parsed-others}

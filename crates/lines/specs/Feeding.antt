@@ -1,7 +1,7 @@
 -- An input that comes in pieces: what is kept between them, and what a piece makes of it.
 use mathlib.Core.Bool.{cond}
 use mathlib.Core.List.{List, [], _∷_, _++_}
-use Prim.Native.Nat.{ℕ, suc, _+_, _-_}
+use Prim.Native.Nat.{ℕ, suc, _-_}
 use lib.Dec.{eqb, ltb}
 use lib.ListN.{length, set, take, replicate}
 use Rattle.account.specs.declared.Account.{Account}

@@ -7,7 +7,7 @@ use native.Mathlib.Nat.{le-of-lt, min-eq-left, min-eq-right, sub-zero, zero-sub,
 use native.Mathlib.Omega.{arith}
 use lib.Dec.{leb}
 use lib.ListN.{length, length-append, length-map, replicate, length-replicate, getD, set, take, drop, List·getD-append}
-use lib.Seq.{drop-cons, take-append-seam, take-append-le, take-all, take-nil, take-suc, length-take-le, set-at, set-out, append-snoc}
+use lib.Seq.{drop-cons, take-append-seam, take-all, take-nil, take-suc, length-take-le, set-at, append-snoc}
 use borrow.Author.Tests.{leb-true, leb-false}
 use Rattle.lists.specs.Pad.{pad}
 

@@ -1,22 +1,17 @@
 -- What a call plans: the head after it, what becomes of the estimates, what is asked of the ledger, and the numbers of its answer.
-use mathlib.Core.Path.{_≡_}
 use mathlib.Core.Bool.{Bool, true, false, cond}
 use mathlib.Core.List.{List, [], _∷_, _++_}
 use Prim.Native.Nat.{ℕ, _+_, _≤_, _<_}
 use lib.Dec.{eqb}
-use lib.IntN.{ℤ, pos}
-use lib.ListN.{length, drop}
+use lib.IntN.{pos}
 use Rattle.tariff.specs.declared.Fuel.{Fuel}
 use Rattle.tariff.specs.Price.{priceOf}
 use Rattle.meter.specs.declared.Meter.{Meter}
-use Rattle.lists.specs.Every.{Every}
 use Rattle.meter.specs.declared.Estimate.{Estimate}
 use Rattle.meter.specs.declared.Estimates.{Estimates}
-use Rattle.meter.specs.Dial.{span, Digits}
-use Rattle.meter.specs.Metering.{poolTo, setOn, exchangedFor, readAt, missedAt}
-use Rattle.meter.specs.Sharing.{standing, finalVolumes}
+use Rattle.meter.specs.Metering.{setOn, exchangedFor, readAt, missedAt}
+use Rattle.meter.specs.Sharing.{standing}
 use Rattle.ledger.specs.declared.Entry.{Entry}
-use Rattle.ledger.specs.Limits.{lastCallDay}
 use Rattle.ledger.specs.Posting.{chargeOf, creditOf}
 use Rattle.intake.specs.declared.Status.{Status}
 use Rattle.intake.specs.declared.Status.the-variants.{Supplied, Stopped, Cancelled}
@@ -31,8 +26,8 @@ use Rattle.plan.specs.declared.ClosingRead.{ClosingRead}
 use Rattle.plan.specs.declared.Miss.{Miss}
 use Rattle.closing.specs.declared.Figures.{Figures}
 use Rattle.plan.specs.declared.Plan.{Plan}
-use Rattle.intake.specs.Limits.{mostVolume, mostMisses, mostDays, mostCharge, fuelAllowed}
-use Rattle.intake.specs.Statuses.{isSupplied, isCancelled, startOf, stopOf}
+use Rattle.intake.specs.Limits.{mostMisses}
+use Rattle.intake.specs.Statuses.{isCancelled, startOf, stopOf}
 use Rattle.intake.specs.Periods.{daysOf, dayAfter, resumedStart}
 use Rattle.closing.specs.Closing.{storedEstimates, finals, readFigures}
 use Rattle.intake.specs.Refusals.{readingRefusal, firstRefusal}

@@ -9,7 +9,7 @@ use lib.ListN.{length, getD, take, drop, length-append, length-take}
 use lib.Seq.{drop-cons, take-all}
 use borrow.Author.Tests.{eqb-true, eqb-false}
 use Rattle.lists.specs.Pad.{pad}
-use Rattle.lists.proofs.Pad.{take-pad, length-pad}
+use Rattle.lists.proofs.Pad.{length-pad}
 use Rattle.lists.proofs.Joined.{joined-taken}
 use Rattle.lists.specs.Joined.{joined}
 use Rattle.meter.specs.Sharing.{finalVolumes, volumesOf}

@@ -6,27 +6,6 @@ use Rattle.calendar.proofs.Table.{early-month, leap-month, common-month
 use Rattle.calendar.proofs.days_before_month.Statement.{statement}
 use Rattle.calendar.proofs.days_before_month.Tie as tie
 
-sub-common : tie.Need-sub-common
-sub-common c = search needs
-
-cast-common : tie.Need-cast-common
-cast-common c = search needs
-
-mul-common : tie.Need-mul-common
-mul-common c = search needs
-
-array-read-common : tie.Need-array-read-common
-array-read-common c = search needs
-
-returns : tie.Need-returns
-returns c = early-month (c .before .args .year) (c .before .args .month) (c .if1 .taken)
-
-is-leap-requires : tie.Need-is-leap-requires
-is-leap-requires c κs = search needs
-
-add-result : tie.Need-add-result
-add-result c = omega (arith, table-most (c .before .before .before .args .month - 1) (omega arith))
-
 returns-2 : tie.Need-returns-2
 returns-2 c = leap-month (c .before .before .before .args .year) (c .before .before .before .args .month) (c .before .before .if1 .left) (c .before .before .before .pre .1 .1) (sym (c .before .is-leap .ensures) ∙ c .if2 .taken)
 
@@ -37,12 +16,12 @@ pub days-before-month-spec : {M : Type 1} → statement M
 days-before-month-spec =
     tie.close
     (tie.spec
-    sub-common
-    cast-common
-    mul-common
-    array-read-common
-    returns
-    is-leap-requires
-    add-result
+    (λ c. search needs)  -- sub-common
+    (λ c. search needs)  -- cast-common
+    (λ c. search needs)  -- mul-common
+    (λ c. search needs)  -- array-read-common
+    (λ c. early-month (c .before .args .year) (c .before .args .month) (c .if1 .taken))  -- returns
+    (λ c κs. search needs)  -- is-leap-requires
+    (λ c. omega (arith, table-most (c .before .before .before .args .month - 1) (omega arith)))  -- add-result
     returns-2
     returns-3)

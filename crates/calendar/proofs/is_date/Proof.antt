@@ -8,16 +8,10 @@ use Rattle.calendar.proofs.RoundTrip.{within-true}
 use Rattle.calendar.proofs.is_date.Statement.{statement}
 use Rattle.calendar.proofs.is_date.Tie as tie
 
-within-requires : tie.Need-within-requires
-within-requires c κs = search needs
-
 returns : tie.Need-returns
 unfolding isDate
 returns c = let year : within 2000 2099 (c .before .before .args .date .year) ≡ false = sym (c .before .within .ensures) ∙ not-true _ (c .if1 .taken) in
     rw year
-
-within-requires-2 : tie.Need-within-requires-2
-within-requires-2 c κs = search needs
 
 returns-2 : tie.Need-returns-2
 unfolding isDate
@@ -27,9 +21,6 @@ returns-2 c = let year : within 2000 2099 (c .before .before .before .before .ar
 
 month-length-requires : tie.Need-month-length-requires
 month-length-requires c κs = (omega (arith, within-true 2000 2099 (c .before .before .before .before .args .date .year) (sym (c .before .before .before .within .ensures) ∙ not-false _ (c .before .before .if1 .left))), omega (arith, within-true 1 12 (c .before .before .before .before .args .date .month) (sym (c .before .within2 .ensures) ∙ not-false _ (c .if2 .left))))
-
-within-requires-3 : tie.Need-within-requires-3
-within-requires-3 c κs = search needs
 
 returns-3 : tie.Need-returns-3
 unfolding isDate
@@ -41,10 +32,10 @@ pub is-date-spec : {M : Type 1} → statement M
 is-date-spec =
     tie.close
     (tie.spec
-    within-requires
+    (λ c κs. search needs)  -- within-requires
     returns
-    within-requires-2
+    (λ c κs. search needs)  -- within-requires-2
     returns-2
     month-length-requires
-    within-requires-3
+    (λ c κs. search needs)  -- within-requires-3
     returns-3)

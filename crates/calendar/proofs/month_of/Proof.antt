@@ -18,24 +18,6 @@ Inv-loop year day-of-year month₀ month = IsMonth month × (daysBeforeMonth yea
 abbrev μ-loop : tie.MeasureT-loop
 μ-loop year day-of-year month₀ month = 12 - month
 
-loop-holds : tie.Need-loop-holds Inv-loop μ-loop
-loop-holds c = (omega arith, omega (arith, year-begins (c .args .year)))
-
-add-days-before-month : tie.Need-add-days-before-month Inv-loop μ-loop
-add-days-before-month c = omega arith
-
-days-before-month-requires : tie.Need-days-before-month-requires Inv-loop μ-loop
-days-before-month-requires c κs = (c .before .before .pre .0, omega arith)
-
-add-month : tie.Need-add-month Inv-loop μ-loop
-add-month c = omega arith
-
-loop-less : tie.Need-loop-less Inv-loop μ-loop
-loop-less c = omega arith
-
-loop-again : tie.Need-loop-again Inv-loop μ-loop
-loop-again c = (omega arith, omega (arith, c .before .days-before-month .ensures))
-
 returns : tie.Need-returns Inv-loop μ-loop
 returns c = let month = c .before .before .before .loop .month in
     lies (c .before .before .before .before .args .year) month (c .before .before .before .before .args .day-of-year) (c .before .before .before .before .pre .0 .from-2000) (c .before .before .before .before .pre .1) (c .before .before .before .loop .inv .0) (c .before .before .before .loop .inv .1)
@@ -54,11 +36,11 @@ month-of-spec =
     (tie.spec
     Inv-loop
     μ-loop
-    loop-holds
-    add-days-before-month
-    days-before-month-requires
+    (λ c. (omega arith, omega (arith, year-begins (c .args .year))))  -- loop-holds
+    (λ c. omega arith)  -- add-days-before-month
+    (λ c κs. (c .before .before .pre .0, omega arith))  -- days-before-month-requires
     returns
-    add-month
-    loop-less
-    loop-again
+    (λ c. omega arith)  -- add-month
+    (λ c. omega arith)  -- loop-less
+    (λ c. (omega arith, omega (arith, c .before .days-before-month .ensures)))  -- loop-again
     returns-2)

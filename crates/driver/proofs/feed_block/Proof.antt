@@ -1,4 +1,4 @@
-use mathlib.Core.Path.{_≡_, refl, sym, ap, _∙_}
+use mathlib.Core.Path.{_≡_, sym, ap, _∙_}
 use Prim.Native.Nat.{ℕ, _+_, _-_, _≤_}
 use native.Mathlib.Omega.{arith}
 use mathlib.Core.Bool.{false≢true}
@@ -53,38 +53,14 @@ fed-on c b =
     let bytes : (seen ++ take at block) ++ take (f .taken) (part c) ≡ seen ++ take (at + f .taken) block = append-assoc seen (take at block) (take (f .taken) (part c)) ∙ ap (λ xs. seen ++ (take at block ++ take (f .taken) xs)) whole-part ∙ ap (λ xs. seen ++ xs) (sym (take-add at (f .taken) block)) in
     rw (c .feed .ensures .0, ← bytes) next
 
-large-buffer-requires : tie.Need-large-buffer-requires Inv-loop μ-loop
-large-buffer-requires c κs = tt
-
 loop-holds : tie.Need-loop-holds Inv-loop μ-loop
 loop-holds c = (omega arith, sym (c .large-buffer .ensures), behind-ready (c .before .before .pre), λ b. rw (append-nil (b .seen)) (b .follows))
-
-sub-feed : tie.Need-sub-feed Inv-loop μ-loop
-sub-feed c = omega arith
-
-part-feed-start : tie.Need-part-feed-start Inv-loop μ-loop
-part-feed-start c = omega arith
-
-part-feed-end : tie.Need-part-feed-end Inv-loop μ-loop
-part-feed-end c = omega arith
-
-slice-aggregate-feed : tie.Need-slice-aggregate-feed Inv-loop μ-loop
-slice-aggregate-feed c = sym (c .before .before .before .loop .inv .1)
-
-feed-requires : tie.Need-feed-requires Inv-loop μ-loop
-feed-requires c κs = c .before .before .before .loop .inv .2
-
-add-at : tie.Need-add-at Inv-loop μ-loop
-add-at c = omega (arith, fed-bounds (c .before .before .before))
 
 array-share-prefix-out : tie.Need-array-share-prefix-out Inv-loop μ-loop
 array-share-prefix-out c = rw (out-length (c .before .before .before)) (omega (arith, fed-bounds (c .before .before .before)))
 
 slice-aggregate-print : tie.Need-slice-aggregate-print Inv-loop μ-loop
 slice-aggregate-print c = sym (length-take-le (c .before .before .before .before .feed .result .written) (c .before .before .before .before .feed .last .1 .1 .0) (rw (out-length (c .before .before .before .before)) (omega (arith, fed-bounds (c .before .before .before .before)))))
-
-print-requires : tie.Need-print-requires Inv-loop μ-loop
-print-requires c κs = tt
 
 returns : tie.Need-returns Inv-loop μ-loop
 returns c = (c .before .before .before .before .before .before .feed .ensures .1 .1 .1, λ e. absurd (false≢true e))
@@ -107,17 +83,17 @@ feed-block-spec =
     (tie.spec
     Inv-loop
     μ-loop
-    large-buffer-requires
+    (λ c κs. tt)  -- large-buffer-requires
     loop-holds
-    sub-feed
-    part-feed-start
-    part-feed-end
-    slice-aggregate-feed
-    feed-requires
-    add-at
+    (λ c. omega arith)  -- sub-feed
+    (λ c. omega arith)  -- part-feed-start
+    (λ c. omega arith)  -- part-feed-end
+    (λ c. sym (c .before .before .before .loop .inv .1))  -- slice-aggregate-feed
+    (λ c κs. c .before .before .before .loop .inv .2)  -- feed-requires
+    (λ c. omega (arith, fed-bounds (c .before .before .before)))  -- add-at
     array-share-prefix-out
     slice-aggregate-print
-    print-requires
+    (λ c κs. tt)  -- print-requires
     returns
     loop-less
     loop-again

@@ -1,29 +1,22 @@
 use mathlib.Core.Path.{refl, sym, _∙_}
-use mathlib.Core.Bool.{true≢false, false≢true}
+use mathlib.Core.Bool.{true≢false}
 use borrow.Author.Tests.{not-true, not-false}
 use borrow.Author.Needs.{needs}
 use Rattle.feeding.proofs.enter_plan.Statement.{statement}
 use Rattle.feeding.proofs.enter_plan.Tie as tie
-use Rattle.feeding.proofs.enter_plan.Reads as reads
-use Rattle.feeding.proofs.enter_plan.Lts as lts
-use Rattle.feeding.proofs.unasked.Reads as unasked-reads
 
--- src/lib.rt:260:9
 unasked-requires : tie.Need-unasked-requires
 unasked-requires c κs = search needs
 
--- src/lib.rt:260:9
 returns : tie.Need-returns
 returns c =
     let s : tie.Start = search in
     let t : tie.Then1 = search in
     (record { declined = λ n. (c .unasked .ensures, refl); quiet = λ z. absurd (t .if1 .taken z); asked = λ z. absurd (t .if1 .taken z) }, s .pre .0)
 
--- src/lib.rt:263:9
 unasked-requires-2 : tie.Need-unasked-requires-2
 unasked-requires-2 c κs = search needs
 
--- src/lib.rt:263:9
 returns-2 : tie.Need-returns-2
 returns-2 c =
     let s : tie.Start = search in
@@ -32,14 +25,12 @@ returns-2 c =
     let asks = not-true (s .args .plan .asks) (t .if2 .taken) in
     (record { declined = λ n. absurd (n (e .if1 .left)); quiet = λ z f. (c .unasked2 .ensures, refl); asked = λ z f. absurd (true≢false (sym f ∙ asks)) }, s .pre .0)
 
--- src/lib.rt:265:5
 enter-requires : tie.Need-enter-requires
 enter-requires c κs =
     let s : tie.Start = search in
     let e : tie.Else1 = search in
     (s .pre .0, (s .pre .1 .0, (s .pre .1 .1 .0, s .pre .1 .1 .1 (e .if1 .left))))
 
--- src/lib.rt:245:1
 returns-3 : tie.Need-returns-3
 returns-3 c =
     let s : tie.Start = search in

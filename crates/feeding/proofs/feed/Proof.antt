@@ -2,13 +2,11 @@
 -- parts stand for.
 use mathlib.Core.Path.{_≡_, refl, sym, ap, subst, _∙_}
 use mathlib.Core.List.{List}
-use Prim.Native.Nat.{ℕ, _≤_}
-use native.Mathlib.Omega.{arith}
 use lib.ListN.{length}
 use borrow.Author.Needs.{needs}
 use Rattle.lists.proofs.Pad.{length-of-mapped}
 use Rattle.ledger.specs.declared.Item.{Item}
-use Rattle.ledger.specs.Limits.{capacity, lanePlaces}
+use Rattle.ledger.specs.Limits.{capacity}
 use Rattle.lanes.specs.Lanes.{rows}
 use Rattle.ledger.proofs.Queues.{Spread}
 use Rattle.lanes.proofs.Rows.{rows-long}
@@ -16,9 +14,7 @@ use Rattle.account.proofs.Ready.{count-most, open-bounds}
 use Rattle.feeding.proofs.Reached.{reached-whole}
 use Rattle.account.specs.declared.Account.{Account}
 use Rattle.frames.specs.Digits.{written}
-use Rattle.lines.specs.declared.State.{State}
 use Rattle.lines.specs.declared.Fed.{Fed}
-use Rattle.lines.specs.Feeding.{feeding, fedOf}
 use Rattle.lines.specs.Going.{state}
 use Rattle.feeding.specs.Working.{accountIn, Lain, Runs, fedIn, queueIn}
 use Rattle.feeding.specs.Reached.{Ready}
@@ -82,9 +78,6 @@ module _ (c : tie.After-feed-lines) where
   runs : Runs (s .args .input .now) (s .args .out .now) (s .args .state) after (c .feed-lines .last .1 .1 .1 .1 .0) (c .feed-lines .last .1 .1 .1 .1 .1 .1 .0) (c .feed-lines .result)
   runs = subst (λ x. Runs (s .args .input .now) (s .args .out .now) x after (c .feed-lines .last .1 .1 .1 .1 .0) (c .feed-lines .last .1 .1 .1 .1 .1 .1 .0) (c .feed-lines .result)) (state-is taken-at) (c .feed-lines .ensures .0)
 
-spread-requires : tie.Need-spread-requires
-spread-requires c κs = record { unpaid-long = refl; amount-long = refl; label-long = refl }
-
 queue-of-requires : tie.Need-queue-of-requires
 queue-of-requires c κs =
     let p : tie.After-spread = search in
@@ -120,7 +113,7 @@ pub feed-spec : {M : Type 1} → statement M
 feed-spec =
     tie.close
     (tie.spec
-    spread-requires
+    (λ c κs. record { unpaid-long = refl; amount-long = refl; label-long = refl })  -- spread-requires
     (λ c κs. tt)  -- head-of-requires
     queue-of-requires
     slice-aggregate-feed-lines

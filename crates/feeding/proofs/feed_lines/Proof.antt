@@ -2,10 +2,10 @@
 -- A line that was found leads to its outcome (`Found`), what is planned and entered comes to that outcome (`Comes`), and so the parts
 -- behind it are those of the outcome's account (`lain-turned`).
 use mathlib.Core.Path.{_≡_, refl, sym, ap, subst, _∙_}
-use mathlib.Core.Bool.{true, false}
+use mathlib.Core.Bool.{true}
 use mathlib.Core.Logic.{⊎-elim}
 use mathlib.Core.List.{List}
-use Prim.Native.Nat.{ℕ, _+_, _-_, _≤_, _<_}
+use Prim.Native.Nat.{ℕ, _-_, _≤_}
 use native.Mathlib.Nat.{sub-zero}
 use native.Mathlib.Omega.{arith}
 use lib.ListN.{length, replicate}
@@ -26,9 +26,9 @@ use Rattle.frames.specs.declared.Fields.{Fields}
 use Rattle.frames.specs.Numbers.{parsedBy}
 use Rattle.lines.specs.declared.State.{State}
 use Rattle.lines.specs.Line.{parsedOutcome}
-use Rattle.lines.specs.Feeding.{blankLine, between, Feeding, nothing, feeding}
+use Rattle.lines.specs.Feeding.{blankLine, between, Feeding, feeding}
 use Rattle.lines.specs.Going.{state, fedFrom, Found, Ends}
-use Rattle.feeding.specs.Working.{accountIn, Lain, PlanOf, Enters, answerOf, headAfter}
+use Rattle.feeding.specs.Working.{accountIn, Lain, PlanOf, answerOf, headAfter}
 use Rattle.lines.proofs.Feeding.{Ahead, ahead-start, ahead-leads, ahead-done, ahead-text}
 use Rattle.lines.proofs.Going.{input-ended, ahead-turn}
 use Rattle.feeding.proofs.Planning.{planned-over}

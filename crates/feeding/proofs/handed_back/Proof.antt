@@ -1,14 +1,10 @@
 use borrow.Author.Needs.{needs}
 use Rattle.feeding.proofs.handed_back.Statement.{statement}
 use Rattle.feeding.proofs.handed_back.Tie as tie
-use Rattle.feeding.proofs.handed_back.Reads as reads
-use Rattle.feeding.proofs.handed_back.Lts as lts
 
--- src/lib.rt:145:22
 account-of-requires : tie.Need-account-of-requires
 account-of-requires c κs = search needs
 
--- src/lib.rt:132:1
 returns : tie.Need-returns
 returns c =
     let s : tie.Start = search in

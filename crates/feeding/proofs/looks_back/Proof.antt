@@ -1,31 +1,23 @@
 use mathlib.Core.Path.{_≡_, sym, subst}
 use mathlib.Core.Bool.{false≢true, true}
-use Rattle.intake.specs.declared.Call.{Call}
 use Rattle.plan.specs.Plans.{reads}
 use Rattle.frames.proofs.Numbers.{parsed-frame}
 use borrow.Author.Needs.{needs}
 use Rattle.feeding.proofs.looks_back.Statement.{statement}
 use Rattle.feeding.proofs.looks_back.Tie as tie
-use Rattle.feeding.proofs.looks_back.Reads as reads
-use Rattle.feeding.proofs.looks_back.Lts as lts
 
--- src/lib.rt:222:9
 returns : tie.Need-returns
 returns c = (λ e. absurd (false≢true e), λ e n reading. c .if1 .taken)
 
--- src/lib.rt:225:9
 returns-2 : tie.Need-returns-2
 returns-2 c = (λ e. absurd (false≢true e), λ e n reading. absurd (n (c .if2 .taken)))
 
--- src/lib.rt:227:26
 call-of-requires : tie.Need-call-of-requires
 call-of-requires c κs = search needs
 
--- src/lib.rt:227:5
 over-requires : tie.Need-over-requires
 over-requires c κs = search needs
 
--- src/lib.rt:216:1
 returns-3 : tie.Need-returns-3
 returns-3 c =
     let s : tie.Start = search in

@@ -12,8 +12,6 @@ use Rattle.feeding.proofs.Planning.{answer-refused, answer-accepted}
 use borrow.Author.Needs.{needs}
 use Rattle.feeding.proofs.put_line.Statement.{statement}
 use Rattle.feeding.proofs.put_line.Tie as tie
-use Rattle.feeding.proofs.put_line.Reads as reads
-use Rattle.feeding.proofs.put_line.Lts as lts
 
 -- seven places for volumes
 seven : (s : tie.Start) → length (s .args .t3) ≡ 7
@@ -23,15 +21,6 @@ seven s = search needs
 net-whole : (s : tie.Start) → toZ w32 (ofZ w32 (s .args .plan .net)) ≡ s .args .plan .net
 net-whole s = search needs
 
--- src/lib.rt:303:9
-put-refusal-requires : tie.Need-put-refusal-requires
-put-refusal-requires c κs = search needs
-
--- src/lib.rt:303:9
-same-length : tie.Need-same-length
-same-length c = search needs
-
--- src/lib.rt:303:9
 returns : tie.Need-returns
 returns c =
     let s : tie.Start = search in
@@ -42,7 +31,6 @@ returns c =
       (p .put-refusal .ensures .1 .0 ∙ ap (λ (x : Answer). s .args .at + length (answerLine x)) is, p .put-refusal .ensures .1 .1),
     )
 
--- src/lib.rt:306:5
 put-accepted-requires : tie.Need-put-accepted-requires
 put-accepted-requires c κs =
     let s : tie.Start = search in
@@ -50,11 +38,6 @@ put-accepted-requires c κs =
     let count-is = s .pre .0 (t .if1 .left) in
     (seven s, (omega (arith, seven s, count-is, length-take (s .args .plan .count) (s .args .t3)), (s .pre .1 .0, s .pre .1 .1)))
 
--- src/lib.rt:285:1
-same-length-2 : tie.Need-same-length-2
-same-length-2 c = search needs
-
--- src/lib.rt:285:1
 returns-2 : tie.Need-returns-2
 returns-2 c =
     let s : tie.Start = search in
@@ -72,9 +55,9 @@ pub put-line-spec : {M : Type 1} → statement M
 put-line-spec =
     tie.close
     (tie.spec
-    put-refusal-requires
-    same-length
+    (λ c κs. search needs)  -- put-refusal-requires
+    (λ c. search needs)  -- same-length
     returns
     put-accepted-requires
-    same-length-2
+    (λ c. search needs)  -- same-length-2
     returns-2)

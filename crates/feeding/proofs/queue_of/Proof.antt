@@ -1,15 +1,10 @@
 use borrow.Author.Needs.{needs}
 use Rattle.feeding.proofs.queue_of.Statement.{statement}
 use Rattle.feeding.proofs.queue_of.Tie as tie
-use Rattle.feeding.proofs.queue_of.Reads as reads
-use Rattle.feeding.proofs.queue_of.Lts as lts
-use Rattle.ledger.proofs.Ledger.unpaid.Reads as unpaid-reads
 
--- src/lib.rt:125:15
 unpaid-requires : tie.Need-unpaid-requires
 unpaid-requires c κs = search needs
 
--- src/lib.rt:118:1
 returns : tie.Need-returns
 returns c =
     let s : tie.Start = search in

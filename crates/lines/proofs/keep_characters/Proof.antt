@@ -1,6 +1,6 @@
 -- Character by character: what the input makes from `from` on is what it makes from `taken` on, of the line kept so far (`leads`).
 use mathlib.Core.Path.{_≡_, refl, sym, _∙_}
-use Prim.Native.Nat.{ℕ, _+_, _-_, _≤_, _<_}
+use Prim.Native.Nat.{ℕ, _+_, _-_, _≤_}
 use native.Mathlib.Omega.{arith}
 use lib.ListN.{length, getD, set, length-set}
 use Rattle.account.specs.declared.Account.{Account}

@@ -1,35 +1,16 @@
-use mathlib.Core.Path.{_≡_, refl, sym, ap, subst, _∙_}
-use Prim.Native.Nat.{ℕ, _+_, min, _≤_, _<_}
+use mathlib.Core.Path.{sym, ap, subst, _∙_}
+use Prim.Native.Nat.{_+_, min, _<_}
 use native.Mathlib.Omega.{arith}
 use lib.ListN.{length, take}
 use lib.Seq.{length-take-le}
 use Rattle.frames.specs.Numbers.{ReadIn}
-use Rattle.lines.specs.Going.{state, Keeps, Found, endedAt}
+use Rattle.lines.specs.Going.{state, Found, endedAt}
 use Rattle.lists.proofs.Pad.{take-min}
 use Rattle.lines.proofs.Going.{input-ended, line-waits, found-waiting, found-kept}
 use borrow.Author.Needs.{needs}
 use Rattle.lines.proofs.kept_line.Statement.{statement}
 use Rattle.lines.proofs.kept_line.Tie as tie
-use Rattle.lines.proofs.kept_line.Reads as reads
-use Rattle.lines.proofs.kept_line.Lts as lts
-use Rattle.lines.proofs.clear.Reads as clear-reads
-use Rattle.lines.proofs.keep_characters.Reads as keep-characters-reads
-use Rattle.lines.proofs.shown_length.Reads as shown-length-reads
-use Rattle.lines.proofs.waiting.Reads as waiting-reads
 
--- src/lib.rt:376:9
-keep-characters-requires : tie.Need-keep-characters-requires
-keep-characters-requires c κs = search needs
-
--- src/lib.rt:380:9
-waiting-requires : tie.Need-waiting-requires
-waiting-requires c κs = search needs
-
--- src/lib.rt:380:9
-same-length : tie.Need-same-length
-same-length c = search needs
-
--- src/lib.rt:380:9
 returns : tie.Need-returns
 returns c =
     let s : tie.Start = search in
@@ -43,15 +24,6 @@ returns c =
     subst (Found input (s .args .from) room (s .args .begun) (s .args .line .now) kept) (sym (c .waiting .ensures))
     (found-waiting input (s .args .from) room (s .args .begun) (s .args .line .now) kept r keeps (s .pre .1 .1 .1) (λ a. input-ended input (r .taken) room (state a (r .length) kept) (omega (arith, t .if1 .taken))))
 
--- src/lib.rt:383:9
-waiting-requires-2 : tie.Need-waiting-requires-2
-waiting-requires-2 c κs = search needs
-
--- src/lib.rt:383:9
-same-length-2 : tie.Need-same-length-2
-same-length-2 c = search needs
-
--- src/lib.rt:383:9
 returns-2 : tie.Need-returns-2
 returns-2 c =
     let s : tie.Start = search in
@@ -67,15 +39,6 @@ returns-2 c =
     subst (Found input (s .args .from) room (s .args .begun) (s .args .line .now) kept) (sym (c .waiting2 .ensures))
     (found-waiting input (s .args .from) room (s .args .begun) (s .args .line .now) kept r keeps (s .pre .1 .1 .1) (λ a. line-waits input (r .taken) room (state a (r .length) kept) more (keeps .ends more) (t .if2 .taken)))
 
--- src/lib.rt:385:9
-shown-length-requires : tie.Need-shown-length-requires
-shown-length-requires c κs = search needs
-
--- src/lib.rt:386:35
-slice-reshare-prefix-fields-in : tie.Need-slice-reshare-prefix-fields-in
-slice-reshare-prefix-fields-in c = search needs
-
--- src/lib.rt:386:35
 slice-aggregate-fields-in : tie.Need-slice-aggregate-fields-in
 slice-aggregate-fields-in c =
     let k : tie.After-keep-characters = search in
@@ -84,23 +47,6 @@ slice-aggregate-fields-in c =
     let long = k .keep-characters .ensures .long in
     rw (n .shown-length .ensures) (sym (length-take-le (min (k .keep-characters .result .length) 31) kept (omega (arith, long))))
 
--- src/lib.rt:386:9
-fields-in-requires : tie.Need-fields-in-requires
-fields-in-requires c κs = search needs
-
--- src/lib.rt:387:5
-clear-requires : tie.Need-clear-requires
-clear-requires c κs = search needs
-
--- src/lib.rt:391:16
-add-t14 : tie.Need-add-t14
-add-t14 c = search needs
-
--- src/lib.rt:362:1
-same-length-3 : tie.Need-same-length-3
-same-length-3 c = search needs
-
--- src/lib.rt:362:1
 returns-3 : tie.Need-returns-3
 returns-3 c =
     let s : tie.Start = search in
@@ -124,18 +70,18 @@ pub kept-line-spec : {M : Type 1} → statement M
 kept-line-spec =
     tie.close
     (tie.spec
-    keep-characters-requires
-    waiting-requires
-    same-length
+    (λ c κs. search needs)  -- keep-characters-requires
+    (λ c κs. search needs)  -- waiting-requires
+    (λ c. search needs)  -- same-length
     returns
-    waiting-requires-2
-    same-length-2
+    (λ c κs. search needs)  -- waiting-requires-2
+    (λ c. search needs)  -- same-length-2
     returns-2
-    shown-length-requires
-    slice-reshare-prefix-fields-in
+    (λ c κs. search needs)  -- shown-length-requires
+    (λ c. search needs)  -- slice-reshare-prefix-fields-in
     slice-aggregate-fields-in
-    fields-in-requires
-    clear-requires
-    add-t14
-    same-length-3
+    (λ c κs. search needs)  -- fields-in-requires
+    (λ c κs. search needs)  -- clear-requires
+    (λ c. search needs)  -- add-t14
+    (λ c. search needs)  -- same-length-3
     returns-3)

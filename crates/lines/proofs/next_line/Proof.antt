@@ -1,38 +1,28 @@
-use mathlib.Core.Path.{_≡_, refl, sym, ap, subst, _∙_}
-use Prim.Native.Nat.{ℕ, _+_, _≤_, _<_}
+use mathlib.Core.Path.{sym, subst}
+use Prim.Native.Nat.{_+_}
 use native.Mathlib.Omega.{arith}
-use mathlib.Core.List.{List}
-use lib.ListN.{length}
 use Rattle.lines.specs.Feeding.{blankLine}
 use Rattle.lines.specs.Going.{Found, endedAt}
-use Rattle.frames.specs.Numbers.{ReadAt}
 use Rattle.lines.proofs.Going.{found-frame}
 use borrow.Author.Needs.{needs}
 use Rattle.lines.proofs.next_line.Statement.{statement}
 use Rattle.lines.proofs.next_line.Tie as tie
-use Rattle.lines.proofs.next_line.Reads as reads
-use Rattle.lines.proofs.next_line.Lts as lts
-use Rattle.lines.proofs.kept_line.Reads as kept-line-reads
 
--- src/lib.rt:346:17
 fields-at-requires : tie.Need-fields-at-requires
 fields-at-requires c κs = search needs
 
--- src/lib.rt:352:28
 add-t12 : tie.Need-add-t12
 add-t12 c =
     let f : tie.After-fields-at = search in
     let t : tie.Then3 = search in
     omega (arith, f .fields-at .ensures (t .if3 .taken) .lies .within)
 
--- src/lib.rt:352:28
 add-t13 : tie.Need-add-t13
 add-t13 c =
     let f : tie.After-fields-at = search in
     let t : tie.Then3 = search in
     omega (arith, f .fields-at .ensures (t .if3 .taken) .lies .within)
 
--- src/lib.rt:349:17
 returns : tie.Need-returns
 returns c =
     let s : tie.Start = search in
@@ -49,15 +39,12 @@ returns c =
     subst (λ line. Found input from (s .args .room) (s .args .begun) line line (endedAt fields (from + fields .width + 1))) (sym blank)
     (subst (λ n. Found input from (s .args .room) n blankLine blankLine (endedAt fields (from + fields .width + 1))) (sym none) found)
 
--- src/lib.rt:358:5
 kept-line-requires : tie.Need-kept-line-requires
 kept-line-requires c κs = search needs
 
--- src/lib.rt:330:1
 same-length : tie.Need-same-length
 same-length c = search needs
 
--- src/lib.rt:330:1
 returns-2 : tie.Need-returns-2
 returns-2 c = search needs
 

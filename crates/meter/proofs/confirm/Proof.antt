@@ -17,39 +17,9 @@ Inv-loop rest estimates count volumes₀ i₀ volumes i = (i ≤ count) × (volu
 abbrev μ-loop : tie.MeasureT-loop
 μ-loop rest estimates count volumes₀ i₀ volumes i = count - i
 
-loop-holds : tie.Need-loop-holds Inv-loop μ-loop
-loop-holds c = (omega arith, refl, c .pre)
-
-mul-estimate : tie.Need-mul-estimate Inv-loop μ-loop
-mul-estimate c = search needs
-
-element-copy-out-estimate : tie.Need-element-copy-out-estimate Inv-loop μ-loop
-element-copy-out-estimate c = search needs
-
-mul-volumes : tie.Need-mul-volumes Inv-loop μ-loop
-mul-volumes c = search needs
-
-array-write-volumes : tie.Need-array-write-volumes Inv-loop μ-loop
-array-write-volumes c = search needs
-
-add-i : tie.Need-add-i Inv-loop μ-loop
-add-i c = omega arith
-
-loop-less : tie.Need-loop-less Inv-loop μ-loop
-loop-less c = omega arith
-
 loop-again : tie.Need-loop-again Inv-loop μ-loop
 loop-again c = let six : length (c .before .before .before .args .t1 .periods) ≡ 6 = search (length-of-mapped, needs) in
     (omega arith, rw (add-one (c .before .before .loop .i), c .before .before .loop .inv .1) (pad-map-next (λ estimate. estimate .volume) 0 7 (c .before .before .before .args .t1 .periods) (c .before .before .loop .i) blank (omega arith) (omega arith)), c .before .before .loop .inv .2)
-
-mul-volumes-2 : tie.Need-mul-volumes-2 Inv-loop μ-loop
-mul-volumes-2 c = search needs
-
-array-write-volumes-2 : tie.Need-array-write-volumes-2 Inv-loop μ-loop
-array-write-volumes-2 c = search needs
-
-add-t15 : tie.Need-add-t15 Inv-loop μ-loop
-add-t15 c = omega arith
 
 returns : tie.Need-returns Inv-loop μ-loop
 returns c = let periods = c .before .before .args .t1 .periods in
@@ -68,15 +38,15 @@ confirm-spec =
     (tie.spec
     Inv-loop
     μ-loop
-    loop-holds
-    mul-estimate
-    element-copy-out-estimate
-    mul-volumes
-    array-write-volumes
-    add-i
-    loop-less
+    (λ c. (omega arith, refl, c .pre))  -- loop-holds
+    (λ c. search needs)  -- mul-estimate
+    (λ c. search needs)  -- element-copy-out-estimate
+    (λ c. search needs)  -- mul-volumes
+    (λ c. search needs)  -- array-write-volumes
+    (λ c. omega arith)  -- add-i
+    (λ c. omega arith)  -- loop-less
     loop-again
-    mul-volumes-2
-    array-write-volumes-2
-    add-t15
+    (λ c. search needs)  -- mul-volumes-2
+    (λ c. search needs)  -- array-write-volumes-2
+    (λ c. omega arith)  -- add-t15
     returns)

@@ -24,24 +24,6 @@ one-more c =
     let six : length (c .before .before .before .before .before .args .t1 .periods) ≡ 6 = search (length-of-mapped, needs) in
     rw (add-one (c .before .before .before .before .loop .i), map-take-suc sharing (c .before .before .before .before .before .args .t1 .periods) (c .before .before .before .before .loop .i) blank (omega arith), total-append (λ shares. cond shares 1 0) (map sharing (take (c .before .before .before .before .loop .i) (c .before .before .before .before .before .args .t1 .periods))) (sharing (getD (c .before .before .before .before .before .args .t1 .periods) (c .before .before .before .before .loop .i) blank) ∷ [])) (omega (arith, c .before .before .before .before .loop .inv .1))
 
-loop-holds : tie.Need-loop-holds Inv-loop μ-loop
-loop-holds c = (omega arith, refl, omega arith, c .pre)
-
-mul-estimate : tie.Need-mul-estimate Inv-loop μ-loop
-mul-estimate c = search needs
-
-element-copy-out-estimate : tie.Need-element-copy-out-estimate Inv-loop μ-loop
-element-copy-out-estimate c = search needs
-
-add-n : tie.Need-add-n Inv-loop μ-loop
-add-n c = omega arith
-
-add-i : tie.Need-add-i Inv-loop μ-loop
-add-i c = omega arith
-
-loop-less : tie.Need-loop-less Inv-loop μ-loop
-loop-less c = omega arith
-
 loop-again : tie.Need-loop-again Inv-loop μ-loop
 loop-again c = ⊎-elim (λ w. omega (arith, rw (w .0 .taken) at (one-more c))) (λ w. omega (arith, rw (w .0 .left) at (one-more c))) (c .if1 .came)
 
@@ -55,11 +37,11 @@ count-sharers-spec =
     (tie.spec
     Inv-loop
     μ-loop
-    loop-holds
-    mul-estimate
-    element-copy-out-estimate
-    add-n
-    add-i
-    loop-less
+    (λ c. (omega arith, refl, omega arith, c .pre))  -- loop-holds
+    (λ c. search needs)  -- mul-estimate
+    (λ c. search needs)  -- element-copy-out-estimate
+    (λ c. omega arith)  -- add-n
+    (λ c. omega arith)  -- add-i
+    (λ c. omega arith)  -- loop-less
     loop-again
     returns)

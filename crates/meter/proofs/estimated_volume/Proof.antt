@@ -24,27 +24,6 @@ one-more c =
     let within : c .before .before .before .loop .i < length (c .before .before .before .before .args .t1 .periods) = let six : length (c .before .before .before .before .args .t1 .periods) ≡ 6 = search (length-of-mapped, needs) in omega arith in
     rw (add-one (c .before .before .before .loop .i), total-suc (λ estimate. estimate .volume) (c .before .before .before .before .args .t1 .periods) (c .before .before .before .loop .i) blank within, c .before .before .before .loop .inv .1)
 
-loop-holds : tie.Need-loop-holds Inv-loop μ-loop
-loop-holds c = (omega arith, refl, omega arith, c .pre)
-
-mul-estimate : tie.Need-mul-estimate Inv-loop μ-loop
-mul-estimate c = search needs
-
-element-copy-out-estimate : tie.Need-element-copy-out-estimate Inv-loop μ-loop
-element-copy-out-estimate c = search needs
-
-cast-sum : tie.Need-cast-sum Inv-loop μ-loop
-cast-sum c = search needs
-
-add-sum : tie.Need-add-sum Inv-loop μ-loop
-add-sum c = omega (arith, volume-fits c)
-
-add-i : tie.Need-add-i Inv-loop μ-loop
-add-i c = omega arith
-
-loop-less : tie.Need-loop-less Inv-loop μ-loop
-loop-less c = omega arith
-
 loop-again : tie.Need-loop-again Inv-loop μ-loop
 loop-again c = (omega arith, one-more c, omega (arith, volume-fits c), c .before .before .before .loop .inv .3)
 
@@ -58,12 +37,12 @@ estimated-volume-spec =
     (tie.spec
     Inv-loop
     μ-loop
-    loop-holds
-    mul-estimate
-    element-copy-out-estimate
-    cast-sum
-    add-sum
-    add-i
-    loop-less
+    (λ c. (omega arith, refl, omega arith, c .pre))  -- loop-holds
+    (λ c. search needs)  -- mul-estimate
+    (λ c. search needs)  -- element-copy-out-estimate
+    (λ c. search needs)  -- cast-sum
+    (λ c. omega (arith, volume-fits c))  -- add-sum
+    (λ c. omega arith)  -- add-i
+    (λ c. omega arith)  -- loop-less
     loop-again
     returns)

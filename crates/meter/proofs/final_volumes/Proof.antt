@@ -7,21 +7,6 @@ use Rattle.meter.specs.Sharing.{estimated, finalVolumes, standing}
 use Rattle.meter.proofs.final_volumes.Statement.{statement}
 use Rattle.meter.proofs.final_volumes.Tie as tie
 
-estimated-volume-requires : tie.Need-estimated-volume-requires
-estimated-volume-requires c κs = search needs
-
-cast-confirm : tie.Need-cast-confirm
-cast-confirm c = search needs
-
-sub-confirm : tie.Need-sub-confirm
-sub-confirm c = search needs
-
-confirm-requires : tie.Need-confirm-requires
-confirm-requires c κs = search needs
-
-share-pool-requires : tie.Need-share-pool-requires
-share-pool-requires c κs = search needs
-
 returns : tie.Need-returns
 unfolding finalVolumes
 returns c = let start = c .before .before .before in
@@ -40,10 +25,10 @@ pub final-volumes-spec : {M : Type 1} → statement M
 final-volumes-spec =
     tie.close
     (tie.spec
-    estimated-volume-requires
-    cast-confirm
-    sub-confirm
-    confirm-requires
-    share-pool-requires
+    (λ c κs. search needs)  -- estimated-volume-requires
+    (λ c. search needs)  -- cast-confirm
+    (λ c. search needs)  -- sub-confirm
+    (λ c κs. search needs)  -- confirm-requires
+    (λ c κs. search needs)  -- share-pool-requires
     returns
     returns-2)

@@ -73,21 +73,6 @@ unfolding sharedPool
 pool-long estimates pool e =
     rw (length-reverse (shares pool (true ∷ reverse (marks estimates))), shares-length (true ∷ reverse (marks estimates)) pool, length-reverse (marks estimates), e) (omega arith)
 
-count-sharers-requires : tie.Need-count-sharers-requires Inv-loop μ-loop
-count-sharers-requires c κs = c .pre .0
-
-add-take-share : tie.Need-add-take-share Inv-loop μ-loop
-add-take-share c = omega (arith, count-most c)
-
-take-share-requires : tie.Need-take-share-requires Inv-loop μ-loop
-take-share-requires c κs = (c .before .pre .1, (omega (arith, count-most c), (λ _. omega arith)))
-
-mul-volumes : tie.Need-mul-volumes Inv-loop μ-loop
-mul-volumes c = search needs
-
-array-write-volumes : tie.Need-array-write-volumes Inv-loop μ-loop
-array-write-volumes c = search needs
-
 loop-holds : tie.Need-loop-holds Inv-loop μ-loop
 unfolding sharedPool
 loop-holds c = let start = c .before .before in
@@ -103,27 +88,9 @@ loop-holds c = let start = c .before .before in
       walked = rw taken (rw long at (walked-first (marks estimates) pool 7 (omega arith)));
     }
 
-sub-i : tie.Need-sub-i Inv-loop μ-loop
-sub-i c = omega arith
-
-mul-estimate : tie.Need-mul-estimate Inv-loop μ-loop
-mul-estimate c = search needs
-
-element-copy-out-estimate : tie.Need-element-copy-out-estimate Inv-loop μ-loop
-element-copy-out-estimate c = search needs
-
 take-share-requires-2 : tie.Need-take-share-requires-2 Inv-loop μ-loop
 take-share-requires-2 c κs = let inv = c .before .before .loop .inv in
     (inv .left-within, (periods-most c, one-left c))
-
-mul-volumes-2 : tie.Need-mul-volumes-2 Inv-loop μ-loop
-mul-volumes-2 c = search needs
-
-array-write-volumes-2 : tie.Need-array-write-volumes-2 Inv-loop μ-loop
-array-write-volumes-2 c = search needs
-
-loop-less : tie.Need-loop-less Inv-loop μ-loop
-loop-less c = omega arith
 
 loop-again : tie.Need-loop-again Inv-loop μ-loop
 loop-again c = let inv = c .before .before .before .loop .inv in
@@ -142,9 +109,6 @@ loop-again c = let inv = c .before .before .before .loop .inv in
       walked = rw (c .take-share2 .ensures) (walked-next (marks (start .args .t1)) (whole (start .args .t1) (start .args .pool)) left periods out j absent (omega (arith, count-long start, inv .within)) (omega (arith, inv .long, inv .within, inv .most)) (mark-is (start .args .t1) j (omega (arith, inv .within))) (rw next at (inv .walked)));
     }
 
-add-t12 : tie.Need-add-t12 Inv-loop μ-loop
-add-t12 c = omega arith
-
 returns : tie.Need-returns Inv-loop μ-loop
 returns c = let start = c .before .before .before .before in
     let inv = c .before .loop .inv in
@@ -159,19 +123,19 @@ share-pool-spec =
     (tie.spec
     Inv-loop
     μ-loop
-    count-sharers-requires
-    add-take-share
-    take-share-requires
-    mul-volumes
-    array-write-volumes
+    (λ c κs. c .pre .0)  -- count-sharers-requires
+    (λ c. omega (arith, count-most c))  -- add-take-share
+    (λ c κs. (c .before .pre .1, (omega (arith, count-most c), (λ _. omega arith))))  -- take-share-requires
+    (λ c. search needs)  -- mul-volumes
+    (λ c. search needs)  -- array-write-volumes
     loop-holds
-    sub-i
-    mul-estimate
-    element-copy-out-estimate
+    (λ c. omega arith)  -- sub-i
+    (λ c. search needs)  -- mul-estimate
+    (λ c. search needs)  -- element-copy-out-estimate
     take-share-requires-2
-    mul-volumes-2
-    array-write-volumes-2
-    loop-less
+    (λ c. search needs)  -- mul-volumes-2
+    (λ c. search needs)  -- array-write-volumes-2
+    (λ c. omega arith)  -- loop-less
     loop-again
-    add-t12
+    (λ c. omega arith)  -- add-t12
     returns)

@@ -26,37 +26,13 @@ shown-most c = omega (arith, c .shown-items .ensures)
 put-length : (c : tie.After-put-notice Inv-loop μ-loop) → length (c .put-notice .last .1 .0) ≡ length (c .before .before .before .before .loop .out)
 put-length c = search needs
 
-shown-items-requires : tie.Need-shown-items-requires Inv-loop μ-loop
-shown-items-requires c κs = tt
-
-loop-holds : tie.Need-loop-holds Inv-loop μ-loop
-loop-holds c = (omega arith, refl, refl)
-
-mul-put-notice : tie.Need-mul-put-notice Inv-loop μ-loop
-mul-put-notice c = omega (arith, shown-most (c .before .before))
-
-array-copy-out-put-notice : tie.Need-array-copy-out-put-notice Inv-loop μ-loop
-array-copy-out-put-notice c = omega (arith, shown-most (c .before .before))
-
-mul-put-notice-2 : tie.Need-mul-put-notice-2 Inv-loop μ-loop
-mul-put-notice-2 c = omega (arith, shown-most (c .before .before .before .before))
-
 put-notice-requires : tie.Need-put-notice-requires Inv-loop μ-loop
 put-notice-requires c κs = omega (arith, c .before .before .before .before .shown-items .ensures, c .before .before .before .before .before .before .before .pre)
-
-add-i : tie.Need-add-i Inv-loop μ-loop
-add-i c = omega arith
-
-loop-less : tie.Need-loop-less Inv-loop μ-loop
-loop-less c = omega arith
 
 loop-again : tie.Need-loop-again Inv-loop μ-loop
 loop-again c = let long : length (c .before .before .before .before .before .before .before .before .before .before .args .ledger .items) ≡ 72 = search (length-of-mapped, needs) in
     let most = shown-most (c .before .before .before .before .before .before .before) in
     (omega arith, put-length (c .before .before) ∙ c .before .before .before .before .before .before .loop .inv .1, rw (joined-next noticeLine (c .before .before .before .before .before .before .before .before .before .before .args .ledger .items) (c .before .before .before .before .before .before .loop .i) blank (omega (arith, long, most))) (written-on (c .before .before .before .before .before .before .before .before .before .before .args .out .now) 0 (noticesOf (take (c .before .before .before .before .before .before .loop .i) (c .before .before .before .before .before .before .before .before .before .before .args .ledger .items))) (noticeLine (getD (c .before .before .before .before .before .before .before .before .before .before .args .ledger .items) (c .before .before .before .before .before .before .loop .i) blank)) (35 * c .before .before .before .before .before .before .loop .i) (joined-taken noticeLine 35 length-notice (c .before .before .before .before .before .before .before .before .before .before .args .ledger .items) (c .before .before .before .before .before .before .loop .i) (omega (arith, long, most))) (c .before .before .before .before .before .before .loop .inv .2) (rw (zero-add (35 * c .before .before .before .before .before .before .loop .i)) (c .before .before .put-notice .ensures))))
-
-same-length : tie.Need-same-length Inv-loop μ-loop
-same-length c = c .before .loop .inv .1
 
 returns : tie.Need-returns Inv-loop μ-loop
 returns c = let long : length (c .before .before .before .before .before .args .ledger .items) ≡ 72 = search (length-of-mapped, needs) in
@@ -69,14 +45,14 @@ put-items-spec =
     (tie.spec
     Inv-loop
     μ-loop
-    shown-items-requires
-    loop-holds
-    mul-put-notice
-    array-copy-out-put-notice
-    mul-put-notice-2
+    (λ c κs. tt)  -- shown-items-requires
+    (λ c. (omega arith, refl, refl))  -- loop-holds
+    (λ c. omega (arith, shown-most (c .before .before)))  -- mul-put-notice
+    (λ c. omega (arith, shown-most (c .before .before)))  -- array-copy-out-put-notice
+    (λ c. omega (arith, shown-most (c .before .before .before .before)))  -- mul-put-notice-2
     put-notice-requires
-    add-i
-    loop-less
+    (λ c. omega arith)  -- add-i
+    (λ c. omega arith)  -- loop-less
     loop-again
-    same-length
+    (λ c. c .before .loop .inv .1)  -- same-length
     returns)

@@ -11,7 +11,6 @@ use borrow.Author.Needs.{needs}
 use borrow.Author.Tests.{le-leb}
 use Rattle.frames.specs.Digits.{written}
 use Rattle.answers.proofs.Writing.{written-behind}
-use Rattle.lines.specs.declared.State.{State}
 use Rattle.lines.specs.declared.Fed.{Fed}
 use Rattle.text.specs.Output.{bill}
 use Rattle.lines.specs.Feeding.{fresh, Feeding, feeding, finishing, fedOf}

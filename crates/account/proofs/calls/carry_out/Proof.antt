@@ -5,16 +5,13 @@ use mathlib.Core.List.{List}
 use Prim.Native.Nat.{ℕ}
 use borrow.Author.Needs.{needs}
 use borrow.Author.Tests.{not-true, not-false}
-use Rattle.ledger.specs.declared.Ledger.{Ledger}
 use Rattle.ledger.specs.Settling.{unpaidOf}
 use Rattle.ledger.specs.Posting.{Standing, standing, stored}
-use Rattle.ledger.specs.Entries.{asked, numberOf, next}
+use Rattle.ledger.specs.Entries.{asked}
 use Rattle.ledger.proofs.Bounds.{standing-stored}
 use Rattle.ledger.proofs.Queues.{next-asked}
 use Rattle.plan.specs.Plans.{changed}
 use Rattle.account.specs.declared.Account.{Account}
-use Rattle.account.specs.declared.Answer.{Answer}
-use Rattle.account.specs.declared.Outcome.{Outcome}
 use Rattle.account.specs.Refusals.{lastRefusal}
 use Rattle.account.specs.Outcomes.{accepted}
 use Rattle.account.specs.Works.{accountOf, workOf}

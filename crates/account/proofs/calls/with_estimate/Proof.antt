@@ -18,39 +18,9 @@ Inv-loop estimate estimates count periods₀ i₀ periods i = (i ≤ count) × (
 abbrev μ-loop : tie.MeasureT-loop
 μ-loop estimate estimates count periods₀ i₀ periods i = count - i
 
-loop-holds : tie.Need-loop-holds Inv-loop μ-loop
-loop-holds c = (omega arith, refl, c .pre)
-
-mul-periods : tie.Need-mul-periods Inv-loop μ-loop
-mul-periods c = search needs
-
-element-copy-out-periods : tie.Need-element-copy-out-periods Inv-loop μ-loop
-element-copy-out-periods c = search needs
-
-mul-periods-2 : tie.Need-mul-periods-2 Inv-loop μ-loop
-mul-periods-2 c = search needs
-
-array-set-from-periods : tie.Need-array-set-from-periods Inv-loop μ-loop
-array-set-from-periods c = search needs
-
-add-i : tie.Need-add-i Inv-loop μ-loop
-add-i c = omega arith
-
-loop-less : tie.Need-loop-less Inv-loop μ-loop
-loop-less c = omega arith
-
 loop-again : tie.Need-loop-again Inv-loop μ-loop
 loop-again c = let long : length (c .before .before .before .args .t1 .periods) ≡ 6 = search (length-of-mapped, needs) in
     (omega arith, rw (c .before .before .loop .inv .1, add-one (c .before .before .loop .i)) (pad-next blank 6 (c .before .before .before .args .t1 .periods) (c .before .before .loop .i) blank (omega arith) (omega (arith, c .before .before .loop .inv .2))), c .before .before .loop .inv .2)
-
-mul-periods-3 : tie.Need-mul-periods-3 Inv-loop μ-loop
-mul-periods-3 c = search needs
-
-array-set-from-periods-2 : tie.Need-array-set-from-periods-2 Inv-loop μ-loop
-array-set-from-periods-2 c = omega (arith, c .before .loop .inv .2)
-
-add-t17 : tie.Need-add-t17 Inv-loop μ-loop
-add-t17 c = omega arith
 
 returns : tie.Need-returns Inv-loop μ-loop
 returns c = let long : length (c .before .before .args .t1 .periods) ≡ 6 = search (length-of-mapped, needs) in
@@ -66,15 +36,15 @@ with-estimate-spec =
     (tie.spec
     Inv-loop
     μ-loop
-    loop-holds
-    mul-periods
-    element-copy-out-periods
-    mul-periods-2
-    array-set-from-periods
-    add-i
-    loop-less
+    (λ c. (omega arith, refl, c .pre))  -- loop-holds
+    (λ c. search needs)  -- mul-periods
+    (λ c. search needs)  -- element-copy-out-periods
+    (λ c. search needs)  -- mul-periods-2
+    (λ c. search needs)  -- array-set-from-periods
+    (λ c. omega arith)  -- add-i
+    (λ c. omega arith)  -- loop-less
     loop-again
-    mul-periods-3
-    array-set-from-periods-2
-    add-t17
+    (λ c. search needs)  -- mul-periods-3
+    (λ c. omega (arith, c .before .loop .inv .2))  -- array-set-from-periods-2
+    (λ c. omega arith)  -- add-t17
     returns)

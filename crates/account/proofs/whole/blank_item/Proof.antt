@@ -3,9 +3,6 @@ use borrow.Author.Tests.{eq-eqb, ne-eqb}
 use Rattle.account.proofs.whole.blank_item.Statement.{statement}
 use Rattle.account.proofs.whole.blank_item.Tie as tie
 
-returns : tie.Need-returns
-returns c = simp (sym (c .before .is-price .ensures) ∙ c .if1 .taken)
-
 returns-2 : tie.Need-returns-2
 returns-2 c =
     let one : tie.Else1 = search in
@@ -37,7 +34,7 @@ blank-item-spec =
     tie.close
     (tie.spec
     (λ c κs. tt)  -- is-price-requires
-    returns
+    (λ c. simp (sym (c .before .is-price .ensures) ∙ c .if1 .taken))  -- returns
     returns-2
     returns-3
     returns-4

@@ -7,39 +7,6 @@ use Rattle.account.proofs.Facts.{whole-of}
 use Rattle.account.proofs.whole.is_whole.Statement.{statement}
 use Rattle.account.proofs.whole.is_whole.Tie as tie
 
-enum-told : tie.Need-enum-told
-enum-told c = search needs
-
-as-made-requires : tie.Need-as-made-requires
-as-made-requires c κs = search needs
-
-enum-known-status : tie.Need-enum-known-status
-enum-known-status c = search needs
-
-cast-if1 : tie.Need-cast-if1
-cast-if1 c = search needs
-
-cast-if1-2 : tie.Need-cast-if1-2
-cast-if1-2 c = search needs
-
-add-if1 : tie.Need-add-if1
-add-if1 c = search needs
-
-whole-parts-requires : tie.Need-whole-parts-requires
-whole-parts-requires c κs = search needs
-
-enum-known-status-2 : tie.Need-enum-known-status-2
-enum-known-status-2 c = search needs
-
-whole-parts-requires-2 : tie.Need-whole-parts-requires-2
-whole-parts-requires-2 c κs = search needs
-
-enum-told-2 : tie.Need-enum-told-2
-enum-told-2 c = search needs
-
-whole-parts-requires-3 : tie.Need-whole-parts-requires-3
-whole-parts-requires-3 c κs = search needs
-
 returns : tie.Need-returns
 unfolding wholeStatus
 returns c = c .as-made .ensures ∙ sym (whole-of (c .before .before .before .args .account) New (c .before .enum-told .given .1))
@@ -72,17 +39,17 @@ pub is-whole-spec : {M : Type 1} → statement M
 is-whole-spec =
     tie.close
     (tie.spec
-    enum-told
-    as-made-requires
-    enum-known-status
-    cast-if1
-    cast-if1-2
-    add-if1
-    whole-parts-requires
-    enum-known-status-2
-    whole-parts-requires-2
-    enum-told-2
-    whole-parts-requires-3
+    (λ c. search needs)  -- enum-told
+    (λ c κs. search needs)  -- as-made-requires
+    (λ c. search needs)  -- enum-known-status
+    (λ c. search needs)  -- cast-if1
+    (λ c. search needs)  -- cast-if1-2
+    (λ c. search needs)  -- add-if1
+    (λ c κs. search needs)  -- whole-parts-requires
+    (λ c. search needs)  -- enum-known-status-2
+    (λ c κs. search needs)  -- whole-parts-requires-2
+    (λ c. search needs)  -- enum-told-2
+    (λ c κs. search needs)  -- whole-parts-requires-3
     returns
     returns-2
     returns-3

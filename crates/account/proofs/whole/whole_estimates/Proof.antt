@@ -20,27 +20,9 @@ Inv-loop estimates count i₀ i = (i ≤ count) × (every wholeEstimate (take i 
 abbrev μ-loop : tie.MeasureT-loop
 μ-loop estimates count i₀ i = count - i
 
-loop-holds : tie.Need-loop-holds Inv-loop μ-loop
-loop-holds c = (omega arith, refl, c .pre)
-
-mul-estimate : tie.Need-mul-estimate Inv-loop μ-loop
-mul-estimate c = search needs
-
-element-copy-out-estimate : tie.Need-element-copy-out-estimate Inv-loop μ-loop
-element-copy-out-estimate c = search needs
-
-whole-estimate-requires : tie.Need-whole-estimate-requires Inv-loop μ-loop
-whole-estimate-requires c κs = tt
-
 returns : tie.Need-returns Inv-loop μ-loop
 returns c = let long : length (c .before .before .before .before .before .args .t1 .periods) ≡ 6 = search (length-of-mapped, needs) in
     sym (every-fails wholeEstimate (c .before .before .before .before .before .args .t1 .periods) (c .before .before .before .before .before .args .t1 .count) (c .before .before .before .before .loop .i) blank (omega arith) (omega arith) (sym (c .before .whole-estimate .ensures) ∙ not-true (c .before .whole-estimate .result) (c .if1 .taken)))
-
-add-i : tie.Need-add-i Inv-loop μ-loop
-add-i c = omega arith
-
-loop-less : tie.Need-loop-less Inv-loop μ-loop
-loop-less c = omega arith
 
 loop-again : tie.Need-loop-again Inv-loop μ-loop
 loop-again c = let long : length (c .before .before .before .before .before .args .t1 .periods) ≡ 6 = search (length-of-mapped, needs) in
@@ -56,12 +38,12 @@ whole-estimates-spec =
     (tie.spec
     Inv-loop
     μ-loop
-    loop-holds
-    mul-estimate
-    element-copy-out-estimate
-    whole-estimate-requires
+    (λ c. (omega arith, refl, c .pre))  -- loop-holds
+    (λ c. search needs)  -- mul-estimate
+    (λ c. search needs)  -- element-copy-out-estimate
+    (λ c κs. tt)  -- whole-estimate-requires
     returns
-    add-i
-    loop-less
+    (λ c. omega arith)  -- add-i
+    (λ c. omega arith)  -- loop-less
     loop-again
     returns-2)

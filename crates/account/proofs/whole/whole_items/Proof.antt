@@ -20,27 +20,9 @@ Inv-loop latest ledger count i₀ i = (i ≤ count) × (every (wholeItem latest)
 abbrev μ-loop : tie.MeasureT-loop
 μ-loop latest ledger count i₀ i = count - i
 
-loop-holds : tie.Need-loop-holds Inv-loop μ-loop
-loop-holds c = (omega arith, refl, c .pre)
-
-mul-item : tie.Need-mul-item Inv-loop μ-loop
-mul-item c = search needs
-
-element-copy-out-item : tie.Need-element-copy-out-item Inv-loop μ-loop
-element-copy-out-item c = search needs
-
-whole-item-requires : tie.Need-whole-item-requires Inv-loop μ-loop
-whole-item-requires c κs = tt
-
 returns : tie.Need-returns Inv-loop μ-loop
 returns c = let long : length (c .before .before .before .before .before .args .t2 .items) ≡ 72 = search (length-of-mapped, needs) in
     sym (every-fails (wholeItem (c .before .before .before .before .before .args .latest)) (c .before .before .before .before .before .args .t2 .items) (c .before .before .before .before .before .args .t2 .count) (c .before .before .before .before .loop .i) blank (omega arith) (omega arith) (sym (c .before .whole-item .ensures) ∙ not-true (c .before .whole-item .result) (c .if1 .taken)))
-
-add-i : tie.Need-add-i Inv-loop μ-loop
-add-i c = omega arith
-
-loop-less : tie.Need-loop-less Inv-loop μ-loop
-loop-less c = omega arith
 
 loop-again : tie.Need-loop-again Inv-loop μ-loop
 loop-again c = let long : length (c .before .before .before .before .before .args .t2 .items) ≡ 72 = search (length-of-mapped, needs) in
@@ -56,12 +38,12 @@ whole-items-spec =
     (tie.spec
     Inv-loop
     μ-loop
-    loop-holds
-    mul-item
-    element-copy-out-item
-    whole-item-requires
+    (λ c. (omega arith, refl, c .pre))  -- loop-holds
+    (λ c. search needs)  -- mul-item
+    (λ c. search needs)  -- element-copy-out-item
+    (λ c κs. tt)  -- whole-item-requires
     returns
-    add-i
-    loop-less
+    (λ c. omega arith)  -- add-i
+    (λ c. omega arith)  -- loop-less
     loop-again
     returns-2)

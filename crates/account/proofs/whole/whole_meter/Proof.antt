@@ -10,9 +10,6 @@ returns : tie.Need-returns
 unfolding wholeMeter
 returns c = rw (lt-leb _ _ (c .if1 .taken)) refl
 
-digits-allowed-requires : tie.Need-digits-allowed-requires
-digits-allowed-requires c κs = search needs
-
 returns-2 : tie.Need-returns-2
 unfolding wholeMeter
 returns-2 c = rw (le-leb _ _ (c .before .before .if1 .left), ← c .before .digits-allowed .ensures, not-true (c .before .digits-allowed .result) (c .if2 .taken)) refl
@@ -40,9 +37,6 @@ returns-6 : tie.Need-returns-6
 unfolding wholeMeter
 returns-6 c = rw (le-leb _ _ (c .before .before .before .before .before .before .before .before .before .before .if1 .left), ← c .before .before .before .before .before .before .before .before .before .digits-allowed .ensures, not-false (c .before .before .before .before .before .before .before .before .before .digits-allowed .result) (c .before .before .before .before .before .before .before .before .if2 .left), ← c .before .before .before .before .before .before .before .on-dial .ensures, not-false (c .before .before .before .before .before .before .before .on-dial .result) (c .before .before .before .before .before .before .if3 .left), le-leb _ _ (c .before .before .before .before .if4 .left), le-leb _ _ (c .before .before .if5 .left), lt-leb _ _ (c .if6 .taken)) refl
 
-whole-estimates-requires : tie.Need-whole-estimates-requires
-whole-estimates-requires c κs = search needs
-
 returns-7 : tie.Need-returns-7
 unfolding wholeMeter
 returns-7 c = rw (le-leb _ _ (c .before .before .before .before .before .before .before .before .before .before .before .if1 .left), ← c .before .before .before .before .before .before .before .before .before .before .digits-allowed .ensures, not-false (c .before .before .before .before .before .before .before .before .before .before .digits-allowed .result) (c .before .before .before .before .before .before .before .before .before .if2 .left), ← c .before .before .before .before .before .before .before .before .on-dial .ensures, not-false (c .before .before .before .before .before .before .before .before .on-dial .result) (c .before .before .before .before .before .before .before .if3 .left), le-leb _ _ (c .before .before .before .before .before .if4 .left), le-leb _ _ (c .before .before .before .if5 .left), le-leb _ _ (c .before .if6 .left)) (c .whole-estimates .ensures)
@@ -52,12 +46,12 @@ whole-meter-spec =
     tie.close
     (tie.spec
     returns
-    digits-allowed-requires
+    (λ c κs. search needs)  -- digits-allowed-requires
     returns-2
     on-dial-requires
     returns-3
     returns-4
     returns-5
     returns-6
-    whole-estimates-requires
+    (λ c κs. search needs)  -- whole-estimates-requires
     returns-7)

@@ -45,15 +45,6 @@ returns : tie.Need-returns
 unfolding toDate
 returns c = rw (sym (c .before .within .ensures) ∙ not-true _ (c .if1 .taken))
 
-year-of-requires : tie.Need-year-of-requires
-year-of-requires c κs = number-most c
-
-days-before-year-requires : tie.Need-days-before-year-requires
-days-before-year-requires c κs = omega (arith, in-century c)
-
-sub-day-of-year : tie.Need-sub-day-of-year
-sub-day-of-year c = omega (arith, year-over c, parts (c .before .before .before .before .args .number))
-
 month-of-requires : tie.Need-month-of-requires
 month-of-requires c κs = (in-century (c .before), rw (c .before .year-of .ensures) (omega (arith, year-over c, parts (c .before .before .before .before .args .number), within-year (dateAt (c .before .before .before .before .args .number)) (date-valid (c .before .before .before .before .args .number)))))
 
@@ -62,9 +53,6 @@ days-before-month-requires c κs = (in-century (c .before .before), rw (month-is
 
 sub-day : tie.Need-sub-day
 sub-day c = omega (arith, month-over c, year-over (c .before .before), parts (c .before .before .before .before .before .before .args .number))
-
-add-day : tie.Need-add-day
-add-day c = omega (arith, number-most (c .before .before .before .before))
 
 returns-2 : tie.Need-returns-2
 unfolding toDate
@@ -79,11 +67,11 @@ to-date-spec =
     (tie.spec
     (λ c κs. search needs)  -- within-requires
     returns
-    year-of-requires
-    days-before-year-requires
-    sub-day-of-year
+    (λ c κs. number-most c)  -- year-of-requires
+    (λ c κs. omega (arith, in-century c))  -- days-before-year-requires
+    (λ c. omega (arith, year-over c, parts (c .before .before .before .before .args .number)))  -- sub-day-of-year
     month-of-requires
     days-before-month-requires
     sub-day
-    add-day
+    (λ c. omega (arith, number-most (c .before .before .before .before)))  -- add-day
     returns-2)

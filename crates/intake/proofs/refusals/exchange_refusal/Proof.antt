@@ -2,7 +2,6 @@
 -- and the one that fails. Past all of them, what `advance_refusal` ensures is what is left.
 use mathlib.Core.Path.{_≡_}
 use mathlib.Core.Bool.{true}
-use Prim.Native.Nat.{ℕ}
 use borrow.Author.Tests.{ltb-true}
 use borrow.Author.Needs.{needs}
 use Rattle.meter.specs.Dial.{span}
@@ -40,28 +39,16 @@ meter c =
     let passed = begun (isSupplied (s .head .status)) (s .head .latest) (s .day) 0 (started c .none) in
     start c .pre .supplied (passed .status-allows) .meter
 
-is-supplied-requires : tie.Need-is-supplied-requires
-is-supplied-requires c κs = search needs
-
-start-refusal-requires : tie.Need-start-refusal-requires
-start-refusal-requires c κs = search needs
-
 returns : tie.Need-returns
 returns c =
     let s = c .before .before .before .before .args in
     let supplied = c .before .before .is-supplied .ensures in
     start-declined (s .head .latest) (s .day) _ supplied (c .before .start-refusal .ensures) (c .if1 .taken)
 
-digits-allowed-requires : tie.Need-digits-allowed-requires
-digits-allowed-requires c κs = search needs
-
 returns-2 : tie.Need-returns-2
 returns-2 c =
     let one : tie.Else1 = search in
     rw (goes-on (started one), answered-no (c .before .digits-allowed .ensures) (c .if2 .taken))
-
-on-dial-requires : tie.Need-on-dial-requires
-on-dial-requires c κs = meter (first c) .digits-within
 
 returns-3 : tie.Need-returns-3
 returns-3 c =
@@ -100,12 +87,12 @@ pub exchange-refusal-spec : {M : Type 1} → statement M
 exchange-refusal-spec =
     tie.close
     (tie.spec
-    is-supplied-requires
-    start-refusal-requires
+    (λ c κs. search needs)  -- is-supplied-requires
+    (λ c κs. search needs)  -- start-refusal-requires
     returns
-    digits-allowed-requires
+    (λ c κs. search needs)  -- digits-allowed-requires
     returns-2
-    on-dial-requires
+    (λ c κs. meter (first c) .digits-within)  -- on-dial-requires
     returns-3
     on-dial-requires-2
     returns-4

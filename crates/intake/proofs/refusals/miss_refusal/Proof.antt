@@ -37,28 +37,16 @@ fuel-passes c = answered-yes (c .before .fuel-allowed .ensures) (c .if2 .left)
 some-day : (c : tie.Else3) → let s = start (first (second c)) .args in someDay (s .head) (s .day) ≡ true
 some-day c = lt-ltb 0 (days-at (start (first (second c)))) (omega (arith, c .before .start-of .ensures, c .if3 .left))
 
-is-supplied-requires : tie.Need-is-supplied-requires
-is-supplied-requires c κs = search needs
-
-start-refusal-requires : tie.Need-start-refusal-requires
-start-refusal-requires c κs = search needs
-
 returns : tie.Need-returns
 returns c =
     let s = c .before .before .before .args in
     let supplied = c .before .before .is-supplied .ensures in
     start-declined (s .head .latest) (s .day) _ supplied (c .before .start-refusal .ensures) (c .if1 .taken)
 
-fuel-allowed-requires : tie.Need-fuel-allowed-requires
-fuel-allowed-requires c κs = search needs
-
 returns-2 : tie.Need-returns-2
 returns-2 c =
     let one : tie.Else1 = search in
     rw (goes-on (started one), answered-no (c .before .fuel-allowed .ensures) (c .if2 .taken))
-
-start-of-requires : tie.Need-start-of-requires
-start-of-requires c κs = search needs
 
 returns-3 : tie.Need-returns-3
 returns-3 c =
@@ -84,12 +72,12 @@ pub miss-refusal-spec : {M : Type 1} → statement M
 miss-refusal-spec =
     tie.close
     (tie.spec
-    is-supplied-requires
-    start-refusal-requires
+    (λ c κs. search needs)  -- is-supplied-requires
+    (λ c κs. search needs)  -- start-refusal-requires
     returns
-    fuel-allowed-requires
+    (λ c κs. search needs)  -- fuel-allowed-requires
     returns-2
-    start-of-requires
+    (λ c κs. search needs)  -- start-of-requires
     returns-3
     returns-4
     returns-5)

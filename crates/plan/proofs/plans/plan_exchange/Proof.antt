@@ -1,10 +1,10 @@
-use mathlib.Core.Path.{_≡_, sym, ap, _∙_}
+use mathlib.Core.Path.{sym, ap, _∙_}
 use Prim.Native.Nat.{ℕ}
 use borrow.Author.Needs.{needs}
 use Rattle.meter.specs.Metering.{with}
 use Rattle.plan.specs.declared.Plan.{Plan}
 use Rattle.plan.specs.Plans.{quietPlan, headOn}
-use Rattle.closing.proofs.Ready.{ExchangeReady, exchange-ready}
+use Rattle.closing.proofs.Ready.{exchange-ready}
 use Rattle.plan.proofs.Planning.{plan-declined, plan-passed}
 use Rattle.plan.proofs.plans.plan_exchange.Statement.{statement}
 use Rattle.plan.proofs.plans.plan_exchange.Tie as tie

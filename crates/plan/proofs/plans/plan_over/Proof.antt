@@ -1,4 +1,4 @@
-use mathlib.Core.Path.{_≡_, sym, ap, _∙_}
+use mathlib.Core.Path.{ap, _∙_}
 use borrow.Author.Needs.{needs}
 use Rattle.meter.specs.Sharing.{standing}
 use Rattle.plan.specs.declared.ClosingRead.{ClosingRead}

@@ -1,5 +1,5 @@
 -- Declined, nothing is read; else what `close_alone` works out is what the definition works out, and its net is within bounds.
-use mathlib.Core.Path.{_≡_, sym, ap, subst, _∙_}
+use mathlib.Core.Path.{sym, ap, subst, _∙_}
 use mathlib.Core.List.{[]}
 use native.Mathlib.Omega.{arith}
 use borrow.Author.Needs.{needs}

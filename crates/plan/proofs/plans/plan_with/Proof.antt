@@ -1,7 +1,6 @@
 use mathlib.Core.Path.{_≡_, ap, _∙_}
 use mathlib.Core.Bool.{true}
-use mathlib.Core.List.{List, []}
-use Prim.Native.Nat.{ℕ}
+use mathlib.Core.List.{[]}
 use lib.ListN.{take}
 use borrow.Author.Needs.{needs}
 use Rattle.meter.specs.Sharing.{standing}

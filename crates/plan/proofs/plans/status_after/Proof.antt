@@ -4,12 +4,6 @@ use Rattle.plan.specs.Plans.{statusAfter}
 use Rattle.plan.proofs.plans.status_after.Statement.{statement}
 use Rattle.plan.proofs.plans.status_after.Tie as tie
 
-returns : tie.Need-returns
-returns c = sym (ap (λ next. statusAfter next (c .before .before .args .day)) (c .enum-told .given .1))
-
-returns-2 : tie.Need-returns-2
-returns-2 c = sym (ap (λ next. statusAfter next (c .before .before .args .day)) (c .enum-told2 .given .1))
-
 pub status-after-spec : {M : Type 1} → statement M
 status-after-spec =
     tie.close
@@ -18,6 +12,6 @@ status-after-spec =
     (λ c. search needs)  -- add
     (λ c. search needs)  -- enum-told-2
     (λ c. search needs)  -- enum-told-3
-    returns
-    returns-2
+    (λ c. sym (ap (λ next. statusAfter next (c .before .before .args .day)) (c .enum-told .given .1)))  -- returns
+    (λ c. sym (ap (λ next. statusAfter next (c .before .before .args .day)) (c .enum-told2 .given .1)))  -- returns-2
     (λ c. search needs))  -- returns-3
