@@ -4,7 +4,7 @@ ghost use Prim.Native.Nat.{_+_, _≤_};
 ghost use lib.ListN.{length, take, replicate};
 ghost use Rattle.frames.specs.Digits.{glyph, PairTable, digits, bytes, written};
 ghost use Rattle.calendar.specs.Conversions.{toDate};
-ghost use Rattle.answers.specs.Answers.{twosComplement, volumesBytes, headBytes, amountsBytes, answerOf, answerLine, longestAnswer};
+ghost use Rattle.answers.specs.Answers.{twosComplement, volumesBytes, headBytes, amountsBytes, answerLine, longestAnswer};
 ghost use Rattle.account.specs.Outcomes.{acceptance, declining};
 ghost use Rattle.answers.specs.Notices.{kindNumber, dateDigits, noticeLine, noticeLength};
 use calendar::Day;
@@ -55,19 +55,11 @@ pub fn put_accepted(
     ensures { λ r. ⌜ r ≡ at + length (answerLine (acceptance estimated (take count (now (volumes .entry))) net interest unpaid credit)) ⌝ }
     ensures { λ r. ⌜ r ≤ at + longestAnswer ⌝ }
 {
-    put_frame(
-        0,
-        estimated,
-        volumes,
-        count,
-        net,
-        interest,
-        unpaid,
-        credit,
-        out,
-        at,
-        pairs,
-    )
+    put_head(out, at, pairs, 0, estimated, count);
+    let next = put_volumes(out, at + 12, pairs, volumes, count);
+    put_amounts(out, next, pairs, net, interest, unpaid, credit);
+    out[next + 48] = 10;
+    next + 49
 }
 
 // The line of a call that is declined, and the place behind it.
@@ -82,34 +74,6 @@ pub fn put_refusal(number: u8, out: &mut [u8], at: usize, pairs: &[u8; 512]) -> 
     put_zeros(out, at + 2, 58);
     out[at + 60] = 10;
     at + 61
-}
-
-// The line of an answer from its numbers, and the place behind it.
-fn put_frame(
-    number: u8,
-    estimated: u32,
-    volumes: &[u32; 7],
-    count: usize,
-    net: i32,
-    interest: u64,
-    unpaid: u64,
-    credit: u64,
-    out: &mut [u8],
-    at: usize,
-    pairs: &[u8; 512],
-) -> usize
-    requires { ⌜ length (now volumes) ≡ 7 ⌝ }
-    requires { ⌜ at + longestAnswer ≤ length (now out) ⌝ }
-    requires { ⌜ PairTable (now pairs) ⌝ }
-    ensures { λ _. ⌜ now (out .exit) ≡ written (now (out .entry)) at (answerLine (answerOf number estimated count (now (volumes .entry)) net interest unpaid credit)) ⌝ }
-    ensures { λ r. ⌜ r ≡ at + length (answerLine (answerOf number estimated count (now (volumes .entry)) net interest unpaid credit)) ⌝ }
-    ensures { λ r. ⌜ r ≤ at + longestAnswer ⌝ }
-{
-    put_head(out, at, pairs, number, estimated, count);
-    let next = put_volumes(out, at + 12, pairs, volumes, count);
-    put_amounts(out, next, pairs, net, interest, unpaid, credit);
-    out[next + 48] = 10;
-    next + 49
 }
 
 // Number, estimated volume and n.

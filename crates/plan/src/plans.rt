@@ -69,6 +69,20 @@ const NO_MISS: Miss = Miss {
     absent: true,
 };
 
+// Any call, with the estimates that stand.
+pub fn plan_with(head: Head, estimates: Estimates, call: Call, volumes: &mut [u32; 7]) -> Plan
+    requires { ⌜ HeadBounds head ⌝ }
+    requires { ⌜ EstimatesFit head estimates ⌝ }
+    requires { ⌜ length (now volumes) ≡ 7 ⌝ }
+    ensures { λ r. ⌜ r ≡ planned head (standing estimates) call ⌝ }
+    ensures { λ _. ⌜ now (volumes .exit) ≡ filledWith (plannedVolumes head (standing estimates) call) (now (volumes .entry)) ⌝ }
+{
+    if over(head.standing, call) {
+        return plan_over(head, estimates, call, volumes);
+    }
+    plan_call(head, call, volumes)
+}
+
 // Whether a call looks at the estimates: it reads the meter, and some stand.
 pub fn over(standing: usize, call: Call) -> bool
     ensures { λ r. ⌜ (r ≡ true → reads call ≡ true) ⌝ }
@@ -101,20 +115,6 @@ fn reads(call: Call) -> bool
         } => true,
         _ => false,
     }
-}
-
-// Any call, with the estimates that stand.
-pub fn plan_with(head: Head, estimates: Estimates, call: Call, volumes: &mut [u32; 7]) -> Plan
-    requires { ⌜ HeadBounds head ⌝ }
-    requires { ⌜ EstimatesFit head estimates ⌝ }
-    requires { ⌜ length (now volumes) ≡ 7 ⌝ }
-    ensures { λ r. ⌜ r ≡ planned head (standing estimates) call ⌝ }
-    ensures { λ _. ⌜ now (volumes .exit) ≡ filledWith (plannedVolumes head (standing estimates) call) (now (volumes .entry)) ⌝ }
-{
-    if over(head.standing, call) {
-        return plan_over(head, estimates, call, volumes);
-    }
-    plan_call(head, call, volumes)
 }
 
 // A call that looks at no estimate.

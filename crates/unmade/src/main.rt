@@ -1,11 +1,13 @@
-// New accounts with one field, or one place of an array, not as made.
+// Number 41: new accounts with one field, or one place of an array, not as made. Document 01, "The account and its calls".
+//
+// A line is as in `spoiled`.
 ghost use Prim.Native.Nat.{_<_};
-use crate::show;
 use account::Account;
 use ledger::Item;
 use ledger::Kind;
 use meter::Estimate;
 use meter::Meter;
+use samples::show;
 use tariff::Fuel;
 
 // What a place that holds nothing holds.
@@ -25,7 +27,7 @@ const NO_ITEM: Item = Item {
     kind: Kind::Interest,
 };
 
-pub fn spoil() {
+fn main() {
     meters();
     lists();
     blank_places();
@@ -76,6 +78,13 @@ fn meters() {
     );
 }
 
+fn lists() {
+    show(with_count(), b"new, an estimate counted");
+    show(with_ledger(1, 0, 0), b"new, an item counted");
+    show(with_ledger(0, 1, 0), b"new, 1 held");
+    show(with_ledger(0, 0, 1), b"new, credit 1");
+}
+
 fn with_count() -> Account {
     let account = Account::new();
     let mut estimates = account.estimates;
@@ -92,38 +101,6 @@ fn with_ledger(count: usize, held: u64, credit: u64) -> Account {
     ledger.count = count;
     ledger.held = held;
     ledger.credit = credit;
-    Account {
-        ledger: ledger,
-        ..account
-    }
-}
-
-fn lists() {
-    show(with_count(), b"new, an estimate counted");
-    show(with_ledger(1, 0, 0), b"new, an item counted");
-    show(with_ledger(0, 1, 0), b"new, 1 held");
-    show(with_ledger(0, 0, 1), b"new, credit 1");
-}
-
-// A new account with something in a place of an array that counts nothing.
-fn with_period(place: usize, period: Estimate) -> Account
-    requires { ⌜ place < 6 ⌝ }
-{
-    let account = Account::new();
-    let mut estimates = account.estimates;
-    estimates.periods[place] = period;
-    Account {
-        estimates: estimates,
-        ..account
-    }
-}
-
-fn with_item(place: usize, item: Item) -> Account
-    requires { ⌜ place < 72 ⌝ }
-{
-    let account = Account::new();
-    let mut ledger = account.ledger;
-    ledger.items[place] = item;
     Account {
         ledger: ledger,
         ..account
@@ -263,4 +240,29 @@ fn items() {
         with_item(71, Item { due: 1, ..NO_ITEM }),
         b"new, due day 1 in the last place of the items",
     );
+}
+
+// A new account with something in a place of an array that counts nothing.
+fn with_period(place: usize, period: Estimate) -> Account
+    requires { ⌜ place < 6 ⌝ }
+{
+    let account = Account::new();
+    let mut estimates = account.estimates;
+    estimates.periods[place] = period;
+    Account {
+        estimates: estimates,
+        ..account
+    }
+}
+
+fn with_item(place: usize, item: Item) -> Account
+    requires { ⌜ place < 72 ⌝ }
+{
+    let account = Account::new();
+    let mut ledger = account.ledger;
+    ledger.items[place] = item;
+    Account {
+        ledger: ledger,
+        ..account
+    }
 }
