@@ -29,13 +29,13 @@ use Rattle.plan.specs.Plans.{changed, passedPlan, passedVolumes}
 use Rattle.plan.proofs.Bounds.{counted}
 use Rattle.account.specs.declared.Account.{Account}
 use Rattle.account.specs.declared.Outcome.{Outcome}
-use Rattle.account.specs.Calls.{headOf, Work, work}
+use Rattle.account.specs.Calls.{headOf, Work, work, accountOf}
 use Rattle.account.specs.Whole.{whole}
 use Rattle.account.specs.Refusals.{lastRefusal}
 use Rattle.account.specs.Outcomes.{accepted, declined, concluded, outcome}
-use Rattle.account.specs.Works.{accountOf, workOf}
+use Rattle.account.specs.Works.{workOf}
 use Rattle.account.proofs.Concluding.{concluded-accepted, concluded-declined, outcome-concluded}
-use Rattle.account.proofs.Working.{plan-works, quiet-says, asking-says}
+use Rattle.account.proofs.Working.{head-counted, plan-works, quiet-says, asking-says}
 
 -- 12 and 13 decline nothing on a ledger that keeps to them.
 pub last-none : (ledger : Ledger) → ledger .count ≤ capacity → ledger .credit ≤ mostCredit → lastRefusal ledger ≡ 0
@@ -103,7 +103,7 @@ module _ (h : Head) (estimates : Estimates) (s : Standing) (call : Call) where
 
       -- the head of the account that lies there
       head-is : headOf a ≡ h
-      head-is = λ i. record { status = h .status; latest = h .latest; meter = h .meter; standing = fit .count-is i }
+      head-is = head-counted h estimates (stored s) (fit .count-is)
 
       works : workOf p final estimates (stored s) ≡ work a call
       works = ap (λ (x : Head). workOf (passedPlan x (Sharing.standing estimates) call) (passedVolumes x (Sharing.standing estimates) call) estimates (stored s)) (sym head-is) ∙ plan-works a call

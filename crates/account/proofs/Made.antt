@@ -12,9 +12,11 @@ use Rattle.ledger.specs.declared.Kind.the-variants.{Interest, Price}
 use Rattle.ledger.specs.declared.Item.{Item}
 use Rattle.ledger.specs.declared.Ledger.{Ledger}
 use Rattle.ledger.specs.Interest.{isPrice}
+use Rattle.intake.specs.declared.Status.{Status}
 use Rattle.intake.specs.declared.Status.the-variants.{New}
+use Rattle.intake.specs.Heads.{headOn}
 use Rattle.account.specs.declared.Account.{Account}
-use Rattle.account.specs.Calls.{newAccount}
+use Rattle.account.specs.Calls.{newAccount, headOf, accountOf}
 use Rattle.account.specs.Whole.{agree, sameEstimate, sameItem, madeMeter, madeEstimates, madeLedger, asMade, wholeStatus, whole}
 use Rattle.intake.proofs.Tests.{and-left, and-right}
 
@@ -98,12 +100,12 @@ made-ledger ledger e =
     let items-are = same-equal sameItem items-equal (ledger .items) (newAccount .ledger .items) (and-right (count && held && credit) items e) in
     λ i. record { count = count-is i; items = items-are i; held = held-is i; credit = credit-is i }
 
--- What a new account holds, its status aside.
-pub record Made (a : Account) : Type 0 where
-  pub latest-none : a .latest ≡ 0
-  pub meter-none : a .meter ≡ newAccount .meter
-  pub estimates-none : a .estimates ≡ newAccount .estimates
-  pub ledger-none : a .ledger ≡ newAccount .ledger
+-- A new account, with another status: what every field that is as made comes to.
+abbrev pub newAs : Status → Account
+newAs status = accountOf (headOn (headOf newAccount) status 0 (newAccount .meter) 0) (newAccount .estimates) (newAccount .ledger)
+
+abbrev pub Made : Account → Type 0
+Made a = a ≡ newAs (a .status)
 
 pub made-facts : (a : Account) → asMade a ≡ true → Made a
 unfolding asMade madeMeter
@@ -123,11 +125,12 @@ made-facts a e =
     let dial-is = eqb-true (a .meter .dial) 0 (and-right (latest && digits) dial three) in
     let pool-is = eqb-true (a .meter .pool) 0 (and-right (latest && digits && dial) pool four) in
     let previous-is = eqb-true (a .meter .previous) 0 (and-right (latest && digits && dial && pool) previous five) in
-    record {
-      latest-none = eqb-true (a .latest) 0 (and-left latest digits two);
-      meter-none = λ i. record { digits = digits-is i; dial = dial-is i; pool = pool-is i; previous = previous-is i };
-      estimates-none = made-estimates (a .estimates) (and-right (madeMeter a) estimates parts);
-      ledger-none = made-ledger (a .ledger) (and-right (madeMeter a && estimates) (madeLedger (a .ledger)) e);
+    λ i. record {
+      status = a .status;
+      latest = eqb-true (a .latest) 0 (and-left latest digits two) i;
+      meter = record { digits = digits-is i; dial = dial-is i; pool = pool-is i; previous = previous-is i };
+      estimates = made-estimates (a .estimates) (and-right (madeMeter a) estimates parts) i;
+      ledger = made-ledger (a .ledger) (and-right (madeMeter a && estimates) (madeLedger (a .ledger)) e) i;
     }
 
 -- The new account is whole, and a whole one with its status is the new account, in every field and in every place of its arrays.
@@ -137,12 +140,4 @@ new-whole = refl
 
 pub whole-new : (a : Account) → a .status ≡ New → whole a ≡ true → a ≡ newAccount
 unfolding whole wholeStatus
-whole-new a e w =
-    let made = made-facts a (sym (ap (λ s. wholeStatus s a) e) ∙ w) in
-    λ i. record {
-      status = e i;
-      latest = made .latest-none i;
-      meter = made .meter-none i;
-      estimates = made .estimates-none i;
-      ledger = made .ledger-none i;
-    }
+whole-new a e w = made-facts a (sym (ap (λ s. wholeStatus s a) e) ∙ w) ∙ ap newAs e

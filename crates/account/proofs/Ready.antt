@@ -9,7 +9,6 @@ use Rattle.lists.specs.Every.{Every}
 use Rattle.lists.proofs.Every.{every-map}
 use Rattle.lists.proofs.Pad.{length-take-most}
 use Rattle.meter.specs.declared.Estimates.{Estimates}
-use Rattle.meter.specs.declared.Meter.{Meter}
 use Rattle.ledger.specs.declared.Item.{Item}
 use Rattle.ledger.specs.declared.Ledger.{Ledger}
 use Rattle.ledger.specs.Limits.{capacity}
@@ -52,12 +51,12 @@ module _ (a : Account) (e : whole a ≡ true) where
 
   pub count-most : a .ledger .count ≤ capacity
   count-most =
-      of-new-or-not (a .ledger .count ≤ capacity) (λ m. omega (arith, ap (λ (l : Ledger). l .count) (m .ledger-none))) (λ w. w .ledger .count-most)
+      of-new-or-not (a .ledger .count ≤ capacity) (λ m. omega (arith, ap (λ (x : Account). x .ledger .count) m)) (λ w. w .ledger .count-most)
 
   pub whole-within : Within (standing (a .ledger))
   whole-within =
       of-new-or-not (Within (standing (a .ledger)))
-      (λ m. subst (λ (l : Ledger). Within (standing l)) (sym (m .ledger-none)) (record { count-most = omega arith; items-within = tt; held-most = omega arith; credit-most = omega arith }))
+      (λ m. subst (λ (l : Ledger). Within (standing l)) (sym (ap (λ (x : Account). x .ledger) m)) (record { count-most = omega arith; items-within = tt; held-most = omega arith; credit-most = omega arith }))
       (λ w. ledger-within (a .latest) (a .ledger) (w .ledger))
 
   pub open-bounds : OpenBounds (a .ledger)
@@ -66,7 +65,7 @@ module _ (a : Account) (e : whole a ≡ true) where
   pub head-bounds : HeadBounds (headOf a)
   head-bounds =
       record {
-        previous-most = of-new-or-not (a .meter .previous ≤ mostVolume) (λ m. omega (arith, ap (λ (x : Meter). x .previous) (m .meter-none))) (λ w. w .meter .previous-most);
+        previous-most = of-new-or-not (a .meter .previous ≤ mostVolume) (λ m. omega (arith, ap (λ (x : Account). x .meter .previous) m)) (λ w. w .meter .previous-most);
         supplied = λ t.
             let known = supplied-facts (a .status) a t (whole-facts a e) in
             let meter = known .1 .meter in
@@ -74,12 +73,12 @@ module _ (a : Account) (e : whole a ≡ true) where
       }
 
   pub misses-most : a .estimates .count ≤ mostMisses
-  misses-most = of-new-or-not (a .estimates .count ≤ mostMisses) (λ m. omega (arith, ap (λ (x : Estimates). x .count) (m .estimates-none))) (λ w. w .meter .misses-most)
+  misses-most = of-new-or-not (a .estimates .count ≤ mostMisses) (λ m. omega (arith, ap (λ (x : Account). x .estimates .count) m)) (λ w. w .meter .misses-most)
 
   pub estimates-within : Every EstimateBounds (standingEstimates a)
   estimates-within =
       of-new-or-not (Every EstimateBounds (standingEstimates a))
-      (λ m. subst (λ (x : Estimates). Every EstimateBounds (take (x .count) (x .periods))) (sym (m .estimates-none)) tt)
+      (λ m. subst (λ (x : Estimates). Every EstimateBounds (take (x .count) (x .periods))) (sym (ap (λ (x : Account). x .estimates) m)) tt)
       (λ w. w .meter .estimates)
 
   pub estimates-fit : length (a .estimates .periods) ≡ mostMisses → EstimatesFit (headOf a) (a .estimates)

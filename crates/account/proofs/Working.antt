@@ -15,17 +15,23 @@ use Rattle.ledger.specs.declared.Ledger.{Ledger}
 use Rattle.ledger.specs.Posting.{Standing, standing, stored, closed, heldPosted, chargeOf, creditOf}
 use Rattle.ledger.specs.Entries.{taken, asked, next, interestPosted}
 use Rattle.ledger.proofs.Posting.{closed-with-none}
+use Rattle.intake.specs.declared.Head.{Head}
 use Rattle.intake.specs.declared.Call.{Call}
 use Rattle.intake.specs.declared.Call.the-variants.{Opening, Reading, Missed, Absent, Exchange, Disconnection, Reconnection, Cancellation, Payment, StoppedCancellation}
 use Rattle.plan.specs.declared.Plan.{Plan}
 use Rattle.plan.specs.declared.Then.{Then}
 use Rattle.plan.specs.declared.Then.the-variants.{Goes, Stops, Ends}
+use Rattle.intake.specs.Heads.{headOn}
 use Rattle.intake.specs.Statuses.{isCancelled}
 use Rattle.plan.specs.Plans.{changed, statusAfter, paymentPlan, stoppedPlan, missPlan, readPlan, passedPlan, passedVolumes}
 use Rattle.closing.specs.Closing.{finals, filledWith}
 use Rattle.account.specs.declared.Account.{Account}
-use Rattle.account.specs.Calls.{headOf, standingEstimates, Work, work, read, missed, cancelled, paidLedger, payment, stoppedCancellation}
-use Rattle.account.specs.Works.{accountOf, workOf}
+use Rattle.account.specs.Calls.{headOf, standingEstimates, Work, work, read, missed, cancelled, paidLedger, payment, stoppedCancellation, accountOf}
+use Rattle.account.specs.Works.{workOf}
+
+-- The head of an account that was made of it.
+pub head-counted : (h : Head) (estimates : Estimates) (ledger : Ledger) → estimates .count ≡ h .standing → headOf (accountOf h estimates ledger) ≡ h
+head-counted h estimates ledger count-is = λ i. headOn h (h .status) (h .latest) (h .meter) (count-is i)
 
 -- A closing asks what its definition says, and the interest that it posts is what was held.
 closing-asked : (day : ℕ) (net : ℤ) (posts : Bool) (s : Standing)

@@ -18,6 +18,7 @@ use Rattle.intake.specs.declared.Status.the-variants.{New, Supplied, Stopped, C
 use Rattle.intake.specs.declared.Head.{Head}
 use Rattle.intake.specs.declared.Call.{Call}
 use Rattle.intake.specs.declared.Call.the-variants.{Opening, Reading, Missed, Absent, Exchange, Disconnection, Reconnection, Cancellation, Payment, StoppedCancellation}
+use Rattle.intake.specs.Heads.{headOn}
 use Rattle.intake.specs.Statuses.{isCancelled, startOf, stopOf}
 use Rattle.intake.specs.Periods.{daysOf, dayAfter, resumedStart}
 use Rattle.closing.specs.Closing.{ofThisPeriod, netOf, storedEstimates}
@@ -33,14 +34,16 @@ newAccount =
       ledger = stored (record { open-items = []; credit = 0; held = 0 });
     }
 
--- The numbers of an account beside its estimates and its ledger.
+-- The numbers of an account beside its estimates and its ledger, and the account of such numbers.
 abbrev pub headOf : Account → Head
 headOf a = record { status = a .status; latest = a .latest; meter = a .meter; standing = a .estimates .count }
 
+abbrev pub accountOf : Head → Estimates → Ledger → Account
+accountOf h estimates ledger = record { status = h .status; latest = h .latest; meter = h .meter; estimates = estimates; ledger = ledger }
+
 -- The account behind a call of this day.
 abbrev pub accountOn : Account → ℕ → Status → Meter → Estimates → Ledger → Account
-accountOn a day status meter estimates ledger =
-    record { status = status; latest = day; meter = meter; estimates = estimates; ledger = ledger }
+accountOn a day status meter estimates ledger = accountOf (headOn (headOf a) status day meter (estimates .count)) estimates ledger
 
 -- with another meter, or another ledger
 abbrev pub withMeter : Account → ℕ → Status → Meter → Account

@@ -6,17 +6,10 @@ use Rattle.meter.specs.declared.Estimates.{Estimates}
 use Rattle.ledger.specs.declared.Ledger.{Ledger}
 use Rattle.ledger.specs.Posting.{standing, stored}
 use Rattle.ledger.specs.Entries.{asked, interestPosted}
-use Rattle.intake.specs.declared.Head.{Head}
 use Rattle.plan.specs.declared.Plan.{Plan}
 use Rattle.plan.specs.Plans.{changed}
-use Rattle.account.specs.declared.Account.{Account}
 use Rattle.account.specs.declared.Answer.{Answer}
-use Rattle.account.specs.Calls.{Work}
-
--- The account of a head, estimates and a ledger.
-abbrev pub accountOf : Head → Estimates → Ledger → Account
-accountOf h estimates ledger =
-    record { status = h .status; latest = h .latest; meter = h .meter; estimates = estimates; ledger = ledger }
+use Rattle.account.specs.Calls.{accountOf, Work}
 
 -- The work that a plan comes to.
 abbrev pub ledgerAfter : Plan → Ledger → Ledger

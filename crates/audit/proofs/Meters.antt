@@ -8,8 +8,6 @@ use native.Mathlib.Omega.{arith}
 use lib.Dec.{eqb}
 use Rattle.lists.specs.Every.{Every}
 use Rattle.lists.proofs.Every.{every-map}
-use Rattle.meter.specs.declared.Meter.{Meter}
-use Rattle.meter.specs.declared.Estimates.{Estimates}
 use Rattle.ledger.specs.declared.Ledger.{Ledger}
 use Rattle.ledger.specs.Posting.{Standing, standing}
 use Rattle.intake.specs.declared.Status.{Status}
@@ -85,20 +83,20 @@ module _ (a : Account) (b : Book) (w : Matched a b) (day reading digits start bo
 pub opening-matched : (a : Account) (b : Book) → Matched a b → (day reading digits : ℕ) → DialPassed (isNew (a .status)) (headOf a) day reading digits
     → Matched (Calls.begun a day reading digits day .account) (acceptMeter b day (begun (b .metering) reading digits day))
 opening-matched a b w day reading digits p =
-    begun-matched a b w day reading digits day day (isNew (a .status)) p (new-open a b (p .status-allows) (w .status-match)) refl (omega arith) (omega (arith, ap (λ (m : Meter). m .pool) (made .meter-none))) (omega (arith, ap (λ (m : Meter). m .previous) (made .meter-none))) (omega (arith, no-misses)) none-estimated none-open
+    begun-matched a b w day reading digits day day (isNew (a .status)) p (new-open a b (p .status-allows) (w .status-match)) refl (omega arith) (omega (arith, ap (λ (x : Account). x .meter .pool) made)) (omega (arith, ap (λ (x : Account). x .meter .previous) made)) (omega (arith, no-misses)) none-estimated none-open
   where
     made : Made a
     made = new-facts (a .status) a (p .status-allows) (w .facts)
 
     no-misses : a .estimates .count ≡ 0
-    no-misses = ap (λ (e : Estimates). e .count) (made .estimates-none)
+    no-misses = ap (λ (x : Account). x .estimates .count) made
 
     none-estimated : Every EstimateBounds (standingEstimates a)
     none-estimated = rw no-misses tt
 
     none-open : LedgerFacts (a .latest) (a .ledger)
     none-open =
-        subst (LedgerFacts (a .latest)) (sym (made .ledger-none))
+        subst (LedgerFacts (a .latest)) (sym (ap (λ (x : Account). x .ledger) made))
         (record { count-most = omega arith; items = tt; held-most = omega arith; credit-most = omega arith; credit-or-none = inl refl })
 
 pub reconnection-matched : (a : Account) (b : Book) → Matched a b → (day reading digits : ℕ) → DialPassed (isStopped (a .status)) (headOf a) day reading digits

@@ -35,12 +35,12 @@ use Rattle.plan.proofs.Bounds.{entry-within, change-room}
 use Rattle.account.specs.declared.Account.{Account}
 use Rattle.account.specs.declared.Answer.{Answer}
 use Rattle.account.specs.declared.Outcome.{Outcome}
-use Rattle.account.specs.Calls.{headOf}
+use Rattle.account.specs.Calls.{headOf, accountOf}
 use Rattle.account.specs.Outcomes.{acceptance, accepted, declined, outcome}
 use Rattle.account.specs.Whole.{whole}
-use Rattle.account.specs.Works.{accountOf}
 use Rattle.account.proofs.Concluding.{outcome-declined}
 use Rattle.account.proofs.Ready.{head-bounds, count-most, whole-within, misses-most, estimates-within, whole-lying}
+use Rattle.account.proofs.Working.{head-counted}
 use Rattle.account.proofs.Carrying.{made, Goes, goes, outcome-quiet, outcome-asked, outcome-refused}
 use Rattle.frames.specs.declared.Parsed.{Parsed}
 use Rattle.frames.specs.declared.Parsed.the-variants.{Frame, NotAFrame}
@@ -70,7 +70,7 @@ module _ {items : List Item} {q : Queue} {h : Head} {estimates : Estimates} (l :
       record { count-is = l .count-is; few = most; long = omega (arith, count-is, long, most); within = estimates-within account lain-whole }
 
   head-is : headOf account ≡ h
-  head-is = λ i. record { status = h .status; latest = h .latest; meter = h .meter; standing = l .count-is i }
+  head-is = head-counted h estimates (stored (lying items q)) (l .count-is)
 
   pub lain-bounds : HeadBounds h
   lain-bounds = subst HeadBounds head-is (head-bounds account lain-whole)

@@ -16,11 +16,11 @@ use Rattle.ledger.specs.declared.Queue.{Queue}
 use Rattle.ledger.specs.Numbers.{lying, Lies}
 use Rattle.ledger.specs.declared.Entered.{Entered}
 use Rattle.lanes.specs.Lanes.{Worked}
+use Rattle.account.specs.Calls.{accountOf}
 use Rattle.account.specs.declared.Account.{Account}
 use Rattle.account.specs.declared.Answer.{Answer}
 use Rattle.intake.specs.declared.Head.{Head}
 use Rattle.plan.specs.declared.Plan.{Plan}
-use Rattle.account.specs.Works.{accountOf}
 use Rattle.plan.specs.Plans.{quietPlan, planned, plannedVolumes, reads}
 use Rattle.closing.specs.Closing.{filledWith}
 use Rattle.frames.specs.declared.Fields.{Fields}

@@ -1,7 +1,7 @@
--- What is known of the numbers of every whole account.
+-- The numbers of an account beside its estimates and its ledger, and what is known of those of every whole account.
 use mathlib.Core.Path.{_≡_}
 use mathlib.Core.Bool.{true}
-use Prim.Native.Nat.{_+_, _≤_, _<_}
+use Prim.Native.Nat.{ℕ, _+_, _≤_, _<_}
 use lib.ListN.{length}
 use Rattle.lists.specs.Every.{Every}
 use Rattle.meter.specs.declared.Meter.{Meter}
@@ -9,9 +9,14 @@ use Rattle.meter.specs.declared.Estimate.{Estimate}
 use Rattle.meter.specs.declared.Estimates.{Estimates}
 use Rattle.meter.specs.Dial.{span, Digits}
 use Rattle.meter.specs.Sharing.{standing}
+use Rattle.intake.specs.declared.Status.{Status}
 use Rattle.intake.specs.declared.Head.{Head}
 use Rattle.intake.specs.Limits.{mostVolume, mostMisses, mostDays, mostCharge, fuelAllowed}
 use Rattle.intake.specs.Statuses.{isSupplied, startOf}
+
+-- The head behind a call of this day.
+abbrev pub headOn : Head → Status → ℕ → Meter → ℕ → Head
+headOn h status day meter standing = record { status = status; latest = day; meter = meter; standing = standing }
 
 -- What is known of the head of every whole account. A meter is known once there is supply.
 pub record MeterBounds (m : Meter) : Type 0 where

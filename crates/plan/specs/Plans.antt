@@ -6,7 +6,6 @@ use lib.Dec.{eqb}
 use lib.IntN.{pos}
 use Rattle.tariff.specs.declared.Fuel.{Fuel}
 use Rattle.tariff.specs.Price.{priceOf}
-use Rattle.meter.specs.declared.Meter.{Meter}
 use Rattle.meter.specs.declared.Estimate.{Estimate}
 use Rattle.meter.specs.declared.Estimates.{Estimates}
 use Rattle.meter.specs.Metering.{setOn, exchangedFor, readAt, missedAt}
@@ -27,6 +26,7 @@ use Rattle.plan.specs.declared.Miss.{Miss}
 use Rattle.closing.specs.declared.Figures.{Figures}
 use Rattle.plan.specs.declared.Plan.{Plan}
 use Rattle.intake.specs.Limits.{mostMisses}
+use Rattle.intake.specs.Heads.{headOn}
 use Rattle.intake.specs.Statuses.{isCancelled, startOf, stopOf}
 use Rattle.intake.specs.Periods.{daysOf, dayAfter, resumedStart}
 use Rattle.closing.specs.Closing.{storedEstimates, finals, readFigures}
@@ -69,10 +69,6 @@ plannedAs number passed h = cond (eqb number 0) passed (quietPlan number h)
 
 abbrev pub volumesAs : ℕ → List ℕ → List ℕ
 volumesAs number volumes = cond (eqb number 0) volumes []
-
--- The head behind a call of this day.
-abbrev pub headOn : Head → Status → ℕ → Meter → ℕ → Head
-headOn h status day meter standing = record { status = status; latest = day; meter = meter; standing = standing }
 
 -- 01 and 07.
 abbrev pub begunPlan : Head → ℕ → ℕ → ℕ → ℕ → Plan

@@ -11,10 +11,11 @@ use Rattle.ledger.specs.Entries.{asked}
 use Rattle.ledger.proofs.Bounds.{standing-stored}
 use Rattle.ledger.proofs.Queues.{next-asked}
 use Rattle.plan.specs.Plans.{changed}
+use Rattle.account.specs.Calls.{accountOf}
 use Rattle.account.specs.declared.Account.{Account}
 use Rattle.account.specs.Refusals.{lastRefusal}
 use Rattle.account.specs.Outcomes.{accepted}
-use Rattle.account.specs.Works.{accountOf, workOf}
+use Rattle.account.specs.Works.{workOf}
 use Rattle.account.proofs.Concluding.{concluded-accepted, concluded-declined}
 use Rattle.account.proofs.Ready.{count-most, whole-within, open-bounds}
 use Rattle.account.proofs.Working.{quiet-says, asking-says}

@@ -8,6 +8,7 @@ use borrow.Author.Needs.{needs}
 use Rattle.ledger.specs.Posting.{chargeOf, creditOf}
 use Rattle.meter.specs.Metering.{readAt}
 use Rattle.plan.specs.declared.Change.the-variants.{Cleared}
+use Rattle.intake.specs.Heads.{headOn}
 use Rattle.closing.proofs.Nets.{net-fits}
 use Rattle.plan.proofs.plans.after_reading.Statement.{statement}
 use Rattle.plan.proofs.plans.after_reading.Tie as tie
@@ -22,27 +23,22 @@ returns c =
     let credit : tie.After-credit-of = search in
     let charge : tie.After-charge-of = search in
     let net = back s in
+    let a = s .args in
     λ i. record {
       number = 0;
-      head =
-          record {
-            status = status .status-after .ensures i;
-            latest = s .args .day;
-            meter = readAt (s .args .head .meter) (s .args .reading) (s .args .figures .volume);
-            standing = 0;
-          };
+      head = headOn (a .head) (status .status-after .ensures i) (a .day) (readAt (a .head .meter) (a .reading) (a .figures .volume)) 0;
       change = Cleared;
       asks = true;
       entry =
           record {
-            day = s .args .day;
+            day = a .day;
             money = (credit .credit-of .ensures ∙ ap creditOf net) i;
             closes = true;
             charge = (charge .charge-of .ensures ∙ ap chargeOf net) i;
             posts = c .ends .ensures i;
           };
       estimated = 0;
-      count = s .args .figures .count;
+      count = a .figures .count;
       net = net i;
     }
 

@@ -17,6 +17,7 @@ use Rattle.intake.specs.Statuses.{startOf}
 use Rattle.intake.specs.Periods.{daysOf, dayAfter}
 use Rattle.plan.specs.Plans.{missCharge}
 use Rattle.closing.proofs.Ready.{MissReady, miss-ready}
+use Rattle.intake.specs.Heads.{headOn}
 use Rattle.plan.proofs.plans.estimate_period.Statement.{statement}
 use Rattle.plan.proofs.plans.estimate_period.Tie as tie
 
@@ -50,8 +51,7 @@ returns c =
     let a = s .args in
     λ i. record {
       number = 0;
-      head =
-          record { status = Supplied (dayAfter (a .day)); latest = a .day; meter = missedAt (a .head .meter) (a .volume); standing = a .head .standing + 1 };
+      head = headOn (a .head) (Supplied (dayAfter (a .day))) (a .day) (missedAt (a .head .meter) (a .volume)) (a .head .standing + 1);
       change = Added (record { absent = a .absent; days = days i; fuel = a .fuel; volume = a .volume; charged = charged i });
       asks = true;
       entry = record { day = a .day; money = 0; closes = true; charge = charged i; posts = false };

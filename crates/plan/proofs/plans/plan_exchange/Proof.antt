@@ -3,7 +3,8 @@ use Prim.Native.Nat.{ℕ}
 use borrow.Author.Needs.{needs}
 use Rattle.meter.specs.Metering.{with}
 use Rattle.plan.specs.declared.Plan.{Plan}
-use Rattle.plan.specs.Plans.{quietPlan, headOn}
+use Rattle.intake.specs.Heads.{headOn}
+use Rattle.plan.specs.Plans.{quietPlan}
 use Rattle.closing.proofs.Ready.{exchange-ready}
 use Rattle.plan.proofs.Planning.{plan-declined, plan-passed}
 use Rattle.plan.proofs.plans.plan_exchange.Statement.{statement}
