@@ -49,15 +49,12 @@ const INTEREST: Item = Item {
     kind: Kind::Interest,
 };
 
-pub fn text(line: &[u8]) {
-    io::write_all(STDOUT_FILENO, line);
+// The line of a payment of 1 yen on day 100.
+pub fn show(account: Account, name: &[u8]) {
+    line(account.pay(100, 1), name);
 }
 
-fn number(n: u8) {
-    io::print_decimal(STDOUT_FILENO, n as u64);
-    text(b" ");
-}
-
+// A call's number, that of a payment on the account that it handed back, and what was handed in.
 pub fn line(outcome: Outcome, name: &[u8]) {
     let back = outcome.account;
     let again = back.pay(100, 1);
@@ -67,8 +64,13 @@ pub fn line(outcome: Outcome, name: &[u8]) {
     text(b"\n");
 }
 
-pub fn show(account: Account, name: &[u8]) {
-    line(account.pay(100, 1), name);
+fn number(n: u8) {
+    io::print_decimal(STDOUT_FILENO, n as u64);
+    text(b" ");
+}
+
+pub fn text(line: &[u8]) {
+    io::write_all(STDOUT_FILENO, line);
 }
 
 // Two estimates stand.
@@ -156,7 +158,7 @@ pub fn with_previous(previous: u32) -> Account {
     }
 }
 
-pub fn with_estimates(estimates: Estimates) -> Account {
+fn with_estimates(estimates: Estimates) -> Account {
     let account = supplied();
     Account {
         estimates: estimates,
@@ -165,7 +167,7 @@ pub fn with_estimates(estimates: Estimates) -> Account {
 }
 
 // The second estimate is as given.
-pub fn with_estimate(second: Estimate) -> Account {
+fn with_estimate(second: Estimate) -> Account {
     with_estimates(estimates(second))
 }
 
@@ -200,7 +202,7 @@ pub fn with_charge(charged: u32) -> Account {
     })
 }
 
-pub fn with_ledger(ledger: Ledger) -> Account {
+fn with_ledger(ledger: Ledger) -> Account {
     let account = supplied();
     Account {
         ledger: ledger,
@@ -209,7 +211,7 @@ pub fn with_ledger(ledger: Ledger) -> Account {
 }
 
 // The second item is as given.
-pub fn with_item(second: Item) -> Account {
+fn with_item(second: Item) -> Account {
     with_ledger(ledger(second))
 }
 
