@@ -1,5 +1,6 @@
 // A call, the head of the account that it comes to, and numbers 1 to 11, by which it is declined for what these two show.
 pub mod limits;
+pub mod periods;
 pub mod refusals;
 pub mod statuses;
 

@@ -3,8 +3,8 @@ use Rattle.calendar.proofs.Years.{leap-in-century}
 use Rattle.calendar.proofs.is_leap.Statement.{statement}
 use Rattle.calendar.proofs.is_leap.Tie as tie
 
-returns : tie.Need-returns
-returns c = sym (leap-in-century (c .args .year) (c .pre))
-
 pub is-leap-spec : {M : Type 1} → statement M
-is-leap-spec = tie.close (tie.spec returns)
+is-leap-spec =
+    tie.close
+    (tie.spec
+    (λ c. sym (leap-in-century (c .args .year) (c .pre))))  -- returns

@@ -13,18 +13,6 @@ lies : (number year : ℕ) → 2000 ≤ year → year ≤ 2099 → (year - 2000)
 lies number year h l low high =
     sym (year-at number year h (omega (arith, days-before-year year h (omega arith))) (omega (arith, days-before-year (suc year) (omega arith) (omega arith))))
 
-mul-year : tie.Need-mul-year
-mul-year c = search needs
-
-add-year : tie.Need-add-year
-add-year c = search needs
-
-sub-result : tie.Need-sub-result
-sub-result c = search needs
-
-add-result : tie.Need-add-result
-add-result c = search needs
-
 returns : tie.Need-returns
 returns c = let year = 2000 + c .before .args .number / 1461 * 4 in
     lies (c .before .args .number) year (omega arith) (omega arith) (omega arith) (omega arith)
@@ -34,4 +22,12 @@ returns-2 c = let number = c .before .args .number in
     lies number (2000 + number / 1461 * 4 + (number % 1461 - 1) / 365) (omega arith) (omega arith) (omega arith) (omega arith)
 
 pub year-of-spec : {M : Type 1} → statement M
-year-of-spec = tie.close (tie.spec mul-year add-year sub-result add-result returns returns-2)
+year-of-spec =
+    tie.close
+    (tie.spec
+    (λ c. search needs)  -- mul-year
+    (λ c. search needs)  -- add-year
+    (λ c. search needs)  -- sub-result
+    (λ c. search needs)  -- add-result
+    returns
+    returns-2)

@@ -9,17 +9,15 @@ use Rattle.feeding.proofs.finish.Tie as tie
 returns : tie.Need-returns
 returns c = rw (finish-none (length (c .before .before .before .args .out .now)) (c .before .before .before .args .state) (c .if1 .taken)) (refl, (refl, omega arith))
 
-slice-aggregate-feed : tie.Need-slice-aggregate-feed
-slice-aggregate-feed c = search needs
-
-feed-requires : tie.Need-feed-requires
-feed-requires c κs = search needs
-
-same-length : tie.Need-same-length
-same-length c = search needs
-
 returns-2 : tie.Need-returns-2
 returns-2 c = rw (finish-line (length (c .before .before .before .before .before .before .before .before .args .out .now)) (c .before .before .before .before .before .before .before .before .args .state) (c .before .before .before .before .before .if1 .left)) (c .before .before .feed .ensures .0, (c .before .before .feed .ensures .1 .0, c .before .before .feed .ensures .1 .1 .0 .1))
 
 pub finish-spec : {M : Type 1} → statement M
-finish-spec = tie.close (tie.spec returns slice-aggregate-feed feed-requires same-length returns-2)
+finish-spec =
+    tie.close
+    (tie.spec
+    returns
+    (λ c. search needs)  -- slice-aggregate-feed
+    (λ c κs. search needs)  -- feed-requires
+    (λ c. search needs)  -- same-length
+    returns-2)

@@ -2,9 +2,6 @@ use borrow.Author.Needs.{needs}
 use Rattle.feeding.proofs.handed_back.Statement.{statement}
 use Rattle.feeding.proofs.handed_back.Tie as tie
 
-account-of-requires : tie.Need-account-of-requires
-account-of-requires c κs = search needs
-
 returns : tie.Need-returns
 returns c =
     let s : tie.Start = search in
@@ -12,4 +9,8 @@ returns c =
     λ i. record { state = record { account = c .account-of .ensures i; length = w .length; line = s .args .line }; taken = w .taken; written = w .written }
 
 pub handed-back-spec : {M : Type 1} → statement M
-handed-back-spec = tie.close (tie.spec account-of-requires returns)
+handed-back-spec =
+    tie.close
+    (tie.spec
+    (λ c κs. search needs)  -- account-of-requires
+    returns)

@@ -6,18 +6,6 @@ use borrow.Author.Needs.{needs}
 use Rattle.feeding.proofs.looks_back.Statement.{statement}
 use Rattle.feeding.proofs.looks_back.Tie as tie
 
-returns : tie.Need-returns
-returns c = (λ e. absurd (false≢true e), λ e n reading. c .if1 .taken)
-
-returns-2 : tie.Need-returns-2
-returns-2 c = (λ e. absurd (false≢true e), λ e n reading. absurd (n (c .if2 .taken)))
-
-call-of-requires : tie.Need-call-of-requires
-call-of-requires c κs = search needs
-
-over-requires : tie.Need-over-requires
-over-requires c κs = search needs
-
 returns-3 : tie.Need-returns-3
 returns-3 c =
     let s : tie.Start = search in
@@ -29,4 +17,11 @@ returns-3 c =
     )
 
 pub looks-back-spec : {M : Type 1} → statement M
-looks-back-spec = tie.close (tie.spec returns returns-2 call-of-requires over-requires returns-3)
+looks-back-spec =
+    tie.close
+    (tie.spec
+    (λ c. (λ e. absurd (false≢true e), λ e n reading. c .if1 .taken))  -- returns
+    (λ c. (λ e. absurd (false≢true e), λ e n reading. absurd (n (c .if2 .taken))))  -- returns-2
+    (λ c κs. search needs)  -- call-of-requires
+    (λ c κs. search needs)  -- over-requires
+    returns-3)

@@ -2,9 +2,6 @@ use borrow.Author.Needs.{needs}
 use Rattle.feeding.proofs.queue_of.Statement.{statement}
 use Rattle.feeding.proofs.queue_of.Tie as tie
 
-unpaid-requires : tie.Need-unpaid-requires
-unpaid-requires c κs = search needs
-
 returns : tie.Need-returns
 returns c =
     let s : tie.Start = search in
@@ -12,4 +9,8 @@ returns c =
     λ i. record { front = 0; count = ledger .count; owed = c .unpaid .ensures i; held = ledger .held; credit = ledger .credit }
 
 pub queue-of-spec : {M : Type 1} → statement M
-queue-of-spec = tie.close (tie.spec unpaid-requires returns)
+queue-of-spec =
+    tie.close
+    (tie.spec
+    (λ c κs. search needs)  -- unpaid-requires
+    returns)

@@ -16,17 +16,17 @@ turned-is c =
 fits : (c : tie.Then1) → SFits w32 (pos (creditOf (c .before .args .net)))
 fits c = record { sfits = omega (arith, c .before .pre .1) }
 
-sub-result : tie.Need-sub-result
-sub-result c = rw (turned-is c) (fits c)
-
 cast-result : tie.Need-cast-result
 cast-result c = rw (turned-is c, toZ-ofZ (fits c)) (tt, record { fits = omega (arith, c .before .pre .1) })
-
-returns : tie.Need-returns
-returns c = rw (turned-is c, toZ-ofZ (fits c))
 
 returns-2 : tie.Need-returns-2
 returns-2 c = sym (credit-nonnegative (c .before .args .net) (rw (toZ-ofZ (c .before .fits .net)) at (c .if1 .left)))
 
 pub credit-of-spec : {M : Type 1} → statement M
-credit-of-spec = tie.close (tie.spec sub-result cast-result returns returns-2)
+credit-of-spec =
+    tie.close
+    (tie.spec
+    (λ c. rw (turned-is c) (fits c))  -- sub-result
+    cast-result
+    (λ c. rw (turned-is c, toZ-ofZ (fits c)))  -- returns
+    returns-2)

@@ -3,13 +3,14 @@ use borrow.Author.Needs.{needs}
 use Rattle.lines.proofs.waiting.Statement.{statement}
 use Rattle.lines.proofs.waiting.Tie as tie
 
-no-frame-requires : tie.Need-no-frame-requires
-no-frame-requires c κs = search needs
-
 returns : tie.Need-returns
 returns c =
     let s : tie.Start = search in
     λ i. record { ended = false; fields = c .no-frame .ensures i; taken = s .args .taken; length = s .args .kept }
 
 pub waiting-spec : {M : Type 1} → statement M
-waiting-spec = tie.close (tie.spec no-frame-requires returns)
+waiting-spec =
+    tie.close
+    (tie.spec
+    (λ c κs. search needs)  -- no-frame-requires
+    returns)

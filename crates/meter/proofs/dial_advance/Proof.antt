@@ -6,14 +6,8 @@ use Rattle.meter.proofs.Dial.{span-most}
 use Rattle.meter.proofs.dial_advance.Statement.{statement}
 use Rattle.meter.proofs.dial_advance.Tie as tie
 
-dial-span-requires : tie.Need-dial-span-requires
-dial-span-requires c κs = search needs
-
 add-result : tie.Need-add-result
 add-result c = omega (arith, c .dial-span .ensures, span-most (c .before .before .args .digits) (c .before .before .pre .digits-within), c .before .before .pre .new-within)
-
-sub-result : tie.Need-sub-result
-sub-result c = search needs
 
 returns : tie.Need-returns
 unfolding advance
@@ -24,4 +18,11 @@ unfolding advance
 returns-2 c = rw (lt-leb (c .before .before .args .old) (c .before .before .args .new) (c .before .if1 .left), c .dial-span .ensures)
 
 pub dial-advance-spec : {M : Type 1} → statement M
-dial-advance-spec = tie.close (tie.spec dial-span-requires add-result sub-result returns returns-2)
+dial-advance-spec =
+    tie.close
+    (tie.spec
+    (λ c κs. search needs)  -- dial-span-requires
+    add-result
+    (λ c. search needs)  -- sub-result
+    returns
+    returns-2)

@@ -9,24 +9,21 @@ returns : tie.Need-returns
 unfolding shareTaken
 returns c = rw (c .if1 .taken)
 
-sub-part : tie.Need-sub-part
-sub-part c = omega (arith, c .before .pre .1 .1 (c .if1 .left))
-
-add-part : tie.Need-add-part
-add-part c = search needs
-
-div-part : tie.Need-div-part
-div-part c = c .before .pre .1 .1 (c .if1 .left)
-
 sub-t6 : tie.Need-sub-t6
 sub-t6 c = part-at-most (c .before .args .left) (c .before .args .periods) (c .before .pre .1 .1 (c .if1 .left))
-
-sub-t7 : tie.Need-sub-t7
-sub-t7 c = c .before .pre .1 .1 (c .if1 .left)
 
 returns-2 : tie.Need-returns-2
 unfolding shareTaken
 returns-2 c = rw (c .if1 .left)
 
 pub take-share-spec : {M : Type 1} → statement M
-take-share-spec = tie.close (tie.spec returns sub-part add-part div-part sub-t6 sub-t7 returns-2)
+take-share-spec =
+    tie.close
+    (tie.spec
+    returns
+    (λ c. omega (arith, c .before .pre .1 .1 (c .if1 .left)))  -- sub-part
+    (λ c. search needs)  -- add-part
+    (λ c. c .before .pre .1 .1 (c .if1 .left))  -- div-part
+    sub-t6
+    (λ c. c .before .pre .1 .1 (c .if1 .left))  -- sub-t7
+    returns-2)
