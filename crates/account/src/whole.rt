@@ -38,10 +38,10 @@ pub fn is_whole(account: Account) -> bool
     match status {
         Status::New => as_made(account),
         Status::Supplied { start } => {
-            start as u32 <= account.latest as u32 + 1 && whole_parts(account)
+            (start as u32 <= account.latest as u32 + 1) & whole_parts(account)
         }
-        Status::Stopped { stop } => stop <= account.latest && whole_parts(account),
-        Status::Cancelled => account.ledger.held == 0 && whole_parts(account),
+        Status::Stopped { stop } => (stop <= account.latest) & whole_parts(account),
+        Status::Cancelled => (account.ledger.held == 0) & whole_parts(account),
     }
 }
 
@@ -49,121 +49,78 @@ pub fn is_whole(account: Account) -> bool
 fn as_made(account: Account) -> bool
     ensures { λ r. ⌜ r ≡ asMade account ⌝ }
 {
-    if !made_meter(account) {
-        return false;
-    }
-    made_estimates(account.estimates) && made_ledger(account.ledger)
+    made_meter(account) & made_estimates(account.estimates) & made_ledger(account.ledger)
 }
 
 fn made_meter(account: Account) -> bool
     ensures { λ r. ⌜ r ≡ madeMeter account ⌝ }
 {
-    if account.latest != 0 {
-        return false;
-    }
     let meter = account.meter;
-    if meter.digits != 0 {
-        return false;
-    }
-    if meter.dial != 0 {
-        return false;
-    }
-    if meter.pool != 0 {
-        return false;
-    }
-    meter.previous == 0
+    (account.latest == 0)
+        & (meter.digits == 0)
+        & (meter.dial == 0)
+        & (meter.pool == 0)
+        & (meter.previous == 0)
 }
 
 fn made_estimates(estimates: Estimates) -> bool
     ensures { λ r. ⌜ r ≡ madeEstimates estimates ⌝ }
 {
-    if estimates.count != 0 {
-        return false;
-    }
-    blank_estimates(estimates)
+    (estimates.count == 0) & blank_estimates(estimates)
 }
 
 fn blank_estimates(estimates: Estimates) -> bool
     ensures { λ r. ⌜ r ≡ same sameEstimate (estimates .periods) (newAccount .estimates .periods) ⌝ }
 {
+    let mut blank = true;
     let mut i: usize = 0;
     while i < MOST_MISSES {
         let estimate = estimates.periods[i];
-        if !blank_estimate(estimate) {
-            return false;
-        }
+        blank = blank & blank_estimate(estimate);
         i += 1;
     }
-    true
+    blank
 }
 
 fn blank_estimate(estimate: Estimate) -> bool
     ensures { λ r. ⌜ r ≡ sameEstimate estimate Sharing.blank ⌝ }
 {
-    if estimate.absent {
-        return false;
-    }
-    if estimate.days != 0 {
-        return false;
-    }
-    if estimate.fuel.lng != 0 {
-        return false;
-    }
-    if estimate.fuel.propane != 0 {
-        return false;
-    }
-    if estimate.volume != 0 {
-        return false;
-    }
-    estimate.charged == 0
+    !estimate.absent
+        & (estimate.days == 0)
+        & (estimate.fuel.lng == 0)
+        & (estimate.fuel.propane == 0)
+        & (estimate.volume == 0)
+        & (estimate.charged == 0)
 }
 
 fn made_ledger(ledger: Ledger) -> bool
     ensures { λ r. ⌜ r ≡ madeLedger ledger ⌝ }
 {
-    if ledger.count != 0 {
-        return false;
-    }
-    if ledger.held != 0 {
-        return false;
-    }
-    if ledger.credit != 0 {
-        return false;
-    }
-    blank_items(ledger)
+    (ledger.count == 0) & (ledger.held == 0) & (ledger.credit == 0) & blank_items(ledger)
 }
 
 fn blank_items(ledger: Ledger) -> bool
     ensures { λ r. ⌜ r ≡ same sameItem (ledger .items) (newAccount .ledger .items) ⌝ }
 {
+    let mut blank = true;
     let mut i: usize = 0;
     while i < CAPACITY {
         let item = ledger.items[i];
-        if !blank_item(item) {
-            return false;
-        }
+        blank = blank & blank_item(item);
         i += 1;
     }
-    true
+    blank
 }
 
 fn blank_item(item: Item) -> bool
     ensures { λ r. ⌜ r ≡ sameItem item blank ⌝ }
 {
     let kind = item.kind;
-    if is_price(kind) {
-        return false;
-    }
-    if item.amount != 0 {
-        return false;
-    }
-    if item.unpaid != 0 {
-        return false;
-    }
-    if item.obligation != 0 {
-        return false;
-    }
-    item.due == 0
+    !is_price(kind)
+        & (item.amount == 0)
+        & (item.unpaid == 0)
+        & (item.obligation == 0)
+        & (item.due == 0)
 }
 
 fn is_price(kind: Kind) -> bool
@@ -178,32 +135,24 @@ fn is_price(kind: Kind) -> bool
 fn whole_parts(account: Account) -> bool
     ensures { λ r. ⌜ r ≡ wholeParts account ⌝ }
 {
-    whole_meter(account) && whole_ledger(account.latest, account.ledger)
+    whole_meter(account) & whole_ledger(account.latest, account.ledger)
 }
 
 fn whole_meter(account: Account) -> bool
     ensures { λ r. ⌜ r ≡ wholeMeter account ⌝ }
 {
     let meter = account.meter;
-    if account.latest > LAST_CALL_DAY {
-        return false;
-    }
     if !digits_allowed(meter.digits) {
-        return false;
-    }
-    if !on_dial(meter.digits, meter.dial) {
-        return false;
-    }
-    if meter.pool > MOST_VOLUME {
-        return false;
-    }
-    if meter.previous > MOST_VOLUME {
         return false;
     }
     if account.estimates.count > MOST_MISSES {
         return false;
     }
-    whole_estimates(account.estimates)
+    (account.latest <= LAST_CALL_DAY)
+        & on_dial(meter.digits, meter.dial)
+        & (meter.pool <= MOST_VOLUME)
+        & (meter.previous <= MOST_VOLUME)
+        & whole_estimates(account.estimates)
 }
 
 fn whole_estimates(estimates: Estimates) -> bool
@@ -211,30 +160,24 @@ fn whole_estimates(estimates: Estimates) -> bool
     ensures { λ r. ⌜ r ≡ every wholeEstimate (Sharing.standing estimates) ⌝ }
 {
     let count = estimates.count;
+    let mut whole = true;
     let mut i: usize = 0;
     while i < count {
         let estimate = estimates.periods[i];
-        if !whole_estimate(estimate) {
-            return false;
-        }
+        whole = whole & whole_estimate(estimate);
         i += 1;
     }
-    true
+    whole
 }
 
 fn whole_estimate(estimate: Estimate) -> bool
     ensures { λ r. ⌜ r ≡ wholeEstimate estimate ⌝ }
 {
-    if estimate.days < 1 {
-        return false;
-    }
-    if estimate.days > MOST_DAYS {
-        return false;
-    }
-    if !fuel_allowed(estimate.fuel) {
-        return false;
-    }
-    estimate.volume <= MOST_VOLUME && estimate.charged <= MOST_CHARGE
+    (1 <= estimate.days)
+        & (estimate.days <= MOST_DAYS)
+        & fuel_allowed(estimate.fuel)
+        & (estimate.volume <= MOST_VOLUME)
+        & (estimate.charged <= MOST_CHARGE)
 }
 
 fn whole_ledger(latest: u16, ledger: Ledger) -> bool
@@ -243,16 +186,10 @@ fn whole_ledger(latest: u16, ledger: Ledger) -> bool
     if ledger.count > CAPACITY {
         return false;
     }
-    if !whole_items(latest, ledger) {
-        return false;
-    }
-    if ledger.held > MOST_INTEREST {
-        return false;
-    }
-    if ledger.credit > MOST_CREDIT {
-        return false;
-    }
-    ledger.credit == 0 || ledger.count == 0
+    whole_items(latest, ledger)
+        & (ledger.held <= MOST_INTEREST)
+        & (ledger.credit <= MOST_CREDIT)
+        & ((ledger.credit == 0) | (ledger.count == 0))
 }
 
 fn whole_items(latest: u16, ledger: Ledger) -> bool
@@ -260,31 +197,25 @@ fn whole_items(latest: u16, ledger: Ledger) -> bool
     ensures { λ r. ⌜ r ≡ every (wholeItem latest) (standing ledger .open-items) ⌝ }
 {
     let count = ledger.count;
+    let mut whole = true;
     let mut i: usize = 0;
     while i < count {
         let item = ledger.items[i];
-        if !whole_item(latest, item) {
-            return false;
-        }
+        whole = whole & whole_item(latest, item);
         i += 1;
     }
-    true
+    whole
 }
 
 fn whole_item(latest: u16, item: Item) -> bool
     ensures { λ r. ⌜ r ≡ wholeItem latest item ⌝ }
 {
     let kind = item.kind;
-    if item.unpaid < 1 {
-        return false;
-    }
-    if item.unpaid > item.amount {
-        return false;
-    }
-    if item.amount > amount_limit(kind) {
-        return false;
-    }
-    item.obligation <= latest && item.due <= LAST_DUE_DAY
+    (1 <= item.unpaid)
+        & (item.unpaid <= item.amount)
+        & (item.amount <= amount_limit(kind))
+        & (item.obligation <= latest)
+        & (item.due <= LAST_DUE_DAY)
 }
 
 fn amount_limit(kind: Kind) -> u64

@@ -1,6 +1,6 @@
 -- What holds of every element of a list. Assumes nothing.
-use mathlib.Core.Path.{_≡_, refl}
-use mathlib.Core.Bool.{Bool, true, false, and-eq-true-iff, and-false, false≢true}
+use mathlib.Core.Path.{_≡_, refl, sym}
+use mathlib.Core.Bool.{Bool, true, false, _&&_, and-eq-true-iff, and-true, and-assoc, false≢true}
 use mathlib.Core.List.{List, [], _∷_, _++_, reverse, reverse-cons}
 use Prim.Native.Nat.{ℕ, zero, suc, _-_, _<_}
 use native.Mathlib.Nat.{not-suc-le-zero, le-of-suc-le-suc, suc-inj}
@@ -45,20 +45,13 @@ module _ {A : Type 0} (test : A → Bool) where
   pub every-behind : (xs ys : List A) → every test xs ≡ true → every test ys ≡ true → every test (xs ++ ys) ≡ true
   every-behind xs ys e f = true-every (xs ++ ys) (every-append (λ x. test x ≡ true) xs ys (every-true xs e) (every-true ys f))
 
--- The test over a front of a list, one element after another.
-module _ {A : Type 0} (test : A → Bool) where
-  pub every-next : (xs : List A) (i : ℕ) (d : A) → i < length xs → every test (take i xs) ≡ true → test (getD xs i d) ≡ true → every test (take (suc i) xs) ≡ true
-  every-next [] i d h front e = refl
-  every-next (x ∷ xs) zero d h front e = rw e refl
-  every-next (x ∷ xs) (suc i) d h front e =
-      let both = and-eq-true-iff (test x) (every test (take i xs)) .0 front in
-      and-eq-true-iff (test x) (every test (take (suc i) xs)) .1 (both .0, every-next xs i d (le-of-suc-le-suc h) (both .1) e)
-
-  pub every-fails : (xs : List A) (n i : ℕ) (d : A) → i < n → i < length xs → test (getD xs i d) ≡ false → every test (take n xs) ≡ false
-  every-fails [] n i d l h e = absurd (not-suc-le-zero h)
-  every-fails (x ∷ xs) zero i d l h e = absurd (not-suc-le-zero l)
-  every-fails (x ∷ xs) (suc n) zero d l h e = rw e refl
-  every-fails (x ∷ xs) (suc n) (suc i) d l h e = rw (every-fails xs n i d (le-of-suc-le-suc l) (le-of-suc-le-suc h) e) (and-false (test x))
+-- The test over a front of a list, with one element more.
+pub every-suc : {A : Type 0} (test : A → Bool) (xs : List A) (i : ℕ) (d : A) → i < length xs
+    → every test (take (suc i) xs) ≡ (every test (take i xs) && test (getD xs i d))
+every-suc test [] i d h = absurd (not-suc-le-zero h)
+every-suc test (x ∷ xs) zero d h = and-true (test x)
+every-suc test (x ∷ xs) (suc i) d h =
+    rw (every-suc test xs i d (le-of-suc-le-suc h)) (sym (and-assoc (test x) (every test (take i xs)) (test (getD xs i d))))
 
 pub every-reverse : {A : Type 0} (P : A → Type 0) (xs : List A) → Every P xs → Every P (reverse xs)
 every-reverse P [] e = tt

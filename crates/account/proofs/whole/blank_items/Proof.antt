@@ -1,14 +1,13 @@
--- The places passed are blank. By `same-replicate` an array agrees with that of a new account where each place is blank.
+-- What was gathered is the test over the places passed. By `same-replicate` an array agrees with that of a new account where each place is blank.
 use mathlib.Core.Path.{_≡_, refl, sym, _∙_}
-use mathlib.Core.Bool.{Bool, true}
+use mathlib.Core.Bool.{Bool}
 use Prim.Native.Nat.{_-_, _≤_}
 use native.Mathlib.Omega.{arith}
 use native.Mathlib.Numerals.{add-one}
 use lib.ListN.{length, take}
 use borrow.Author.Needs.{needs}
-use borrow.Author.Tests.{not-true, not-false}
 use Rattle.lists.specs.Every.{every}
-use Rattle.lists.proofs.Every.{every-next, every-fails, same-replicate}
+use Rattle.lists.proofs.Every.{every-suc, same-replicate}
 use Rattle.lists.proofs.Pad.{length-of-mapped}
 use Rattle.ledger.specs.declared.Item.{Item}
 use Rattle.ledger.specs.Posting.{blank}
@@ -20,37 +19,29 @@ abbrev isBlank : Item → Bool
 isBlank item = sameItem item blank
 
 abbrev Inv-loop : tie.InvT-loop
-Inv-loop ledger i₀ i = (i ≤ 72) × (every isBlank (take i (ledger .items)) ≡ true)
+Inv-loop ledger blank₀ i₀ blank i = (i ≤ 72) × (blank ≡ every isBlank (take i (ledger .items)))
 
 abbrev μ-loop : tie.MeasureT-loop
-μ-loop ledger i₀ i = 72 - i
+μ-loop ledger blank₀ i₀ blank i = 72 - i
 
 abbrev Walk : (tie.InvT-loop → tie.MeasureT-loop → Type 0) → Type 0
 Walk T = T Inv-loop μ-loop
-
-returns : Walk tie.Need-returns
-returns c =
-    let l : Walk tie.At-loop = search in
-    let places = l .before .args .t1 .items in
-    let long : length places ≡ 72 = search (length-of-mapped, needs) in
-    let fails = sym (c .before .blank-item .ensures) ∙ not-true (c .before .blank-item .result) (c .if1 .taken) in
-    sym (same-replicate sameItem blank places 72 long ∙ every-fails isBlank places 72 (l .loop .i) blank (omega arith) (omega arith) fails)
 
 loop-again : Walk tie.Need-loop-again
 loop-again c =
     let l : Walk tie.At-loop = search in
     let places = l .before .args .t1 .items in
     let long : length places ≡ 72 = search (length-of-mapped, needs) in
-    let passes = sym (c .before .blank-item .ensures) ∙ not-false (c .before .blank-item .result) (c .if1 .left) in
-    (omega arith, rw (add-one (l .loop .i)) (every-next isBlank places (l .loop .i) blank (omega arith) (l .loop .inv .1) passes))
+    let next = every-suc isBlank places (l .loop .i) blank (omega arith) in
+    (omega arith, rw (add-one (l .loop .i), next) (cc))
 
-returns-2 : Walk tie.Need-returns-2
-returns-2 c =
+returns : Walk tie.Need-returns
+returns c =
     let l : Walk tie.At-loop = search in
     let places = l .before .args .t1 .items in
     let long : length places ≡ 72 = search (length-of-mapped, needs) in
     let done : l .loop .i ≡ 72 = omega arith in
-    sym (same-replicate sameItem blank places 72 long ∙ rw done at (l .loop .inv .1))
+    rw done at (l .loop .inv .1) ∙ sym (same-replicate sameItem blank places 72 long)
 
 pub blank-items-spec : {M : Type 1} → statement M
 blank-items-spec =
@@ -62,8 +53,7 @@ blank-items-spec =
     (λ c. search needs)  -- mul-item
     (λ c. search needs)  -- element-copy-out-item
     (λ c κs. tt)  -- blank-item-requires
-    returns
     (λ c. omega arith)  -- add-i
     (λ c. omega arith)  -- loop-less
     loop-again
-    returns-2)
+    returns)
