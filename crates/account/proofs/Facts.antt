@@ -1,5 +1,5 @@
 -- What a whole account keeps to, as facts about its fields. Assumes nothing.
-use mathlib.Core.Path.{_≡_, refl, ap}
+use mathlib.Core.Path.{_≡_, refl}
 use mathlib.Core.Logic.{_⊎_}
 use mathlib.Core.Bool.{Bool, true, false, cond, _&&_, _||_, not, false≢true}
 use mathlib.Core.List.{List}
@@ -218,11 +218,6 @@ status-facts New a e = e
 status-facts (Supplied start) a e = let b = both-parts a (leb start (a .latest + 1)) e in (leb-true start (a .latest + 1) (b .0), b .1)
 status-facts (Stopped stop) a e = let b = both-parts a (leb stop (a .latest)) e in (leb-true stop (a .latest) (b .0), b .1)
 status-facts Cancelled a e = let b = both-parts a (eqb (a .ledger .held) 0) e in (eqb-true (a .ledger .held) 0 (b .0), b .1)
-
--- Wholeness by the status.
-pub whole-of : (a : Account) (status : Status) → a .status ≡ status → whole a ≡ wholeStatus status a
-unfolding whole
-whole-of a status e = ap (λ s. wholeStatus s a) e
 
 -- A whole account has the facts of its status, and one that has them is whole.
 pub whole-facts : (a : Account) → whole a ≡ true → StatusFacts (a .status) a
