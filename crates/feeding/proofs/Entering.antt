@@ -18,7 +18,7 @@ use Rattle.ledger.specs.declared.Queue.{Queue}
 use Rattle.ledger.specs.Limits.{capacity, mostEnd}
 use Rattle.ledger.specs.Posting.{Standing, stored, blank}
 use Rattle.ledger.specs.Entries.{asked, numberOf, interestPosted, EntryBounds, Within}
-use Rattle.ledger.specs.Numbers.{lying, Lies, Fit}
+use Rattle.ledger.specs.Numbers.{queueIn, ledgerOf, lying, Lies, Fit}
 use Rattle.ledger.proofs.Queues.{part-count, next-asked, next-same, Spread, spread-stands, spread-fits, gathered-is}
 use Rattle.intake.specs.declared.Call.{Call}
 use Rattle.intake.specs.declared.Head.{Head}
@@ -46,7 +46,7 @@ use Rattle.frames.specs.declared.Parsed.{Parsed}
 use Rattle.frames.specs.declared.Parsed.the-variants.{Frame, NotAFrame}
 use Rattle.lines.specs.Line.{parsedOutcome}
 use Rattle.feeding.specs.Reached.{Reached}
-use Rattle.feeding.specs.Working.{accountIn, Lain, PlanOf, unasked, Enters, headAfter, answerOf, queueIn, ledgerOf}
+use Rattle.feeding.specs.Working.{accountIn, Lain, PlanOf, unasked, Enters, headAfter, answerOf}
 use Rattle.feeding.proofs.Planning.{answer-refused, answer-accepted}
 use Rattle.feeding.proofs.Reached.{reached-whole, reached-tidy, reached-estimates}
 
@@ -299,13 +299,12 @@ module _ (a : Account) (reached : Reached a) (items : List Item) (w : Spread (a 
 
   pub account-spread : accountIn items (queueIn (a .ledger)) (headOf a) (a .estimates) ≡ a
   account-spread =
-      let stands = spread-stands w (queueIn (a .ledger) .owed) in
-      ap (λ x. accountOf (headOf a) (a .estimates) (stored x)) stands ∙ ap (accountOf (headOf a) (a .estimates)) (sym (reached-tidy a reached))
+      ap (λ x. accountOf (headOf a) (a .estimates) (stored x)) (spread-stands w) ∙ ap (accountOf (headOf a) (a .estimates)) (sym (reached-tidy a reached))
 
   pub lain-spread : Lain items (queueIn (a .ledger)) (headOf a) (a .estimates)
   lain-spread =
       record {
-        lies = spread-fits w refl (whole-within a is-whole) .lies;
+        lies = spread-fits w (whole-within a is-whole) .lies;
         room = omega (arith, count-most a is-whole);
         count-is = refl;
         reached = rw account-spread reached;

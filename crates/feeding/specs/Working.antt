@@ -8,12 +8,10 @@ use lib.ListN.{length, take}
 use Rattle.meter.specs.declared.Estimates.{Estimates}
 use Rattle.meter.specs.Sharing as Sharing
 use Rattle.ledger.specs.declared.Item.{Item}
-use Rattle.ledger.specs.declared.Ledger.{Ledger}
 use Rattle.ledger.specs.Limits.{mostEnd}
-use Rattle.ledger.specs.Settling.{unpaidOf}
-use Rattle.ledger.specs.Posting.{standing, stored}
+use Rattle.ledger.specs.Posting.{stored}
 use Rattle.ledger.specs.declared.Queue.{Queue}
-use Rattle.ledger.specs.Numbers.{lying, Lies}
+use Rattle.ledger.specs.Numbers.{ledgerOf, lying, Lies}
 use Rattle.ledger.specs.declared.Entered.{Entered}
 use Rattle.lanes.specs.Lanes.{Worked}
 use Rattle.account.specs.Calls.{accountOf}
@@ -93,14 +91,6 @@ pub record Runs (input text : List ℕ) (s : State) (items : List Item) (line ou
   pub written-most : r .written ≤ length text
   pub lain : Lain items (r .queue) (r .head) (r .estimates)
   pub clear : r .length ≡ 0 → line ≡ blankLine
-
--- A ledger and the numbers of its queue, its items at the front.
-abbrev pub queueIn : Ledger → Queue
-queueIn ledger =
-    record { front = 0; count = ledger .count; owed = unpaidOf (standing ledger .open-items); held = ledger .held; credit = ledger .credit }
-
-abbrev pub ledgerOf : Queue → List Item → Ledger
-ledgerOf q items = record { count = q .count; items = items; held = q .held; credit = q .credit }
 
 -- What is handed back of a run whose items were gathered.
 abbrev pub handedBack : Went → List Item → List ℕ → Fed

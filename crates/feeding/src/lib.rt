@@ -5,7 +5,6 @@ ghost use Prim.Native.Nat.{_+_, _≤_, _<_};
 ghost use lib.ListN.{length, take};
 ghost use Rattle.meter.specs.declared.Estimates.{Estimates};
 ghost use Rattle.ledger.specs.Limits.{mostEnd};
-ghost use Rattle.ledger.specs.Posting.{OpenBounds};
 ghost use Rattle.ledger.specs.Entries.{EntryBounds};
 ghost use Rattle.ledger.specs.Numbers.{Fit};
 ghost use Rattle.lanes.specs.Lanes.{rows, Long};
@@ -16,12 +15,11 @@ ghost use Rattle.answers.specs.Answers.{answerLine, longestAnswer};
 ghost use Rattle.feeding.specs.Reached.{Ready};
 ghost use Rattle.lines.specs.Feeding.{keptMost, blankLine, feeding, finishing, fedOf};
 ghost use Rattle.lines.specs.Going.{state};
-ghost use Rattle.feeding.specs.Working.{accountIn, Lain, LooksBack, AloneIn, PlanOf, unasked, Enters, headAfter, answerOf, Runs, queueIn, handedBack};
+ghost use Rattle.feeding.specs.Working.{accountIn, Lain, LooksBack, AloneIn, PlanOf, unasked, Enters, headAfter, answerOf, Runs, handedBack};
 use frames::Fields;
 use intake::Head;
 use ledger::Entered;
 use ledger::Item;
-use ledger::Ledger;
 use ledger::Queue;
 use ledger::limits::CAPACITY;
 use ledger::limits::LANE_PLACES;
@@ -62,7 +60,7 @@ pub fn feed(state: State, input: &[u8], out: &mut [u8]) -> Fed
     let went = feed_lines(
         account::calls::head_of(account),
         account.estimates,
-        queue_of(ledger),
+        ledger::queue_in(ledger),
         state.length,
         &mut line,
         input,
@@ -76,32 +74,13 @@ pub fn feed(state: State, input: &[u8], out: &mut [u8]) -> Fed
     handed_back(went, items, line)
 }
 
-// The numbers of a ledger whose items lie at the front.
-fn queue_of(ledger: Ledger) -> Queue
-    requires { ⌜ OpenBounds ledger ⌝ }
-    ensures { λ r. ⌜ r ≡ queueIn ledger ⌝ }
-{
-    Queue {
-        front: 0,
-        count: ledger.count,
-        owed: ledger.unpaid(),
-        held: ledger.held,
-        credit: ledger.credit,
-    }
-}
-
 // What a piece leaves.
 fn handed_back(went: Went, items: [Item; CAPACITY], line: [u8; 31]) -> Fed
     ensures { λ r. ⌜ r ≡ handedBack went items line ⌝ }
 {
     let head = went.head;
     let queue = went.queue;
-    let ledger = Ledger {
-        count: queue.count,
-        items,
-        held: queue.held,
-        credit: queue.credit,
-    };
+    let ledger = ledger::ledger_of(queue, items);
     Fed {
         state: State {
             account: account::calls::account_of(head, went.estimates, ledger),

@@ -20,11 +20,13 @@ use ledger::Ledger;
 use ledger::Posted;
 use ledger::Queue;
 use ledger::interest_on;
+use ledger::ledger_of;
 use ledger::limits::CAPACITY;
 use ledger::limits::LANE_PLACES;
 use ledger::limits::MOST_END;
 use ledger::made_item;
 use ledger::numbers::settle_numbers;
+use ledger::queue_in;
 
 // An entry worked where the items are spread.
 pub fn enter_ledger(ledger: Ledger, entry: Entry) -> Posted
@@ -38,24 +40,13 @@ pub fn enter_ledger(ledger: Ledger, entry: Entry) -> Posted
     let mut amount = [0u64; LANE_PLACES];
     let mut label = [0u64; LANE_PLACES];
     spread(all, &mut unpaid, &mut amount, &mut label);
-    let queue = Queue {
-        front: 0,
-        count: ledger.count,
-        owed: ledger.unpaid(),
-        held: ledger.held,
-        credit: ledger.credit,
-    };
+    let queue = queue_in(ledger);
     let entered = enter(&mut unpaid, &mut amount, &mut label, queue, entry);
     let after = entered.queue;
     let items = gathered(&unpaid, &amount, &label, after.front, after.count);
     Posted {
         number: entered.number,
-        ledger: Ledger {
-            count: after.count,
-            items,
-            held: after.held,
-            credit: after.credit,
-        },
+        ledger: ledger_of(after, items),
         interest: entered.interest,
         unpaid: after.owed,
     }

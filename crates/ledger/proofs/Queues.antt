@@ -22,7 +22,7 @@ use Rattle.ledger.specs.Interest.{interestOn}
 use Rattle.ledger.specs.Settling.{unpaidOf}
 use Rattle.ledger.specs.Posting.{Standing, coverage, blank, standing, stored, ItemBounds}
 use Rattle.ledger.specs.Entries.{asked, numberOf, next, interestPosted, EntryBounds, Within}
-use Rattle.ledger.specs.Numbers.{settledBy, NumberBounds, lessPaid, places, posted, itemsAfter, queueOf, lying, Lies, Fit}
+use Rattle.ledger.specs.Numbers.{settledBy, NumberBounds, lessPaid, places, posted, itemsAfter, queueOf, queueIn, ledgerOf, lying, Lies, Fit}
 use Rattle.ledger.proofs.Interest.{interest-most}
 use Rattle.ledger.proofs.Cover.{Covering, covering-next, covered-most, interest-within}
 use Rattle.ledger.proofs.Steps.{cond-most}
@@ -236,8 +236,7 @@ fronted q = record { front = 0; count = q .count; owed = q .owed; held = q .held
 
 -- What is gathered is what stands.
 pub gathered-is : {items : List Item} {q : Queue} → Lies items q → q .count ≤ capacity
-    → record { count = q .count; items = pad capacity blank (part (q .front) (q .count) items); held = q .held; credit = q .credit } ≡
-    stored (lying items q)
+    → ledgerOf q (pad capacity blank (part (q .front) (q .count) items)) ≡ stored (lying items q)
 gathered-is {items} {q} w few =
     rw (take-all capacity (part (q .front) (q .count) items) (omega (arith, few, part-count w)), part-count w)
 
@@ -274,10 +273,6 @@ covered-on items day money left arisen i front count d bounds long h w covers =
           (rw (at-is items front count i h) covers);
     })
 
--- Where a ledger's items are spread.
-abbrev pub spreadQueue : Ledger → ℕ → Queue
-spreadQueue ledger owed = record { front = 0; count = ledger .count; owed = owed; held = ledger .held; credit = ledger .credit }
-
 -- The same items at the front of any array.
 module _ {items : List Item} {q : Queue} (w : Lies items q) (front : List Item)
     (same : take (q .count) front ≡ part (q .front) (q .count) items) where
@@ -300,19 +295,15 @@ pub record Spread (ledger : Ledger) (items : List Item) : Type 0 where
   pub front : take capacity items ≡ ledger .items
 
 module _ {ledger : Ledger} {items : List Item} (w : Spread ledger items) where
-  pub spread-stands : (owed : ℕ) → lying items (spreadQueue ledger owed) ≡ standing ledger
-  spread-stands owed =
+  pub spread-stands : lying items (queueIn ledger) ≡ standing ledger
+  spread-stands =
       let same = sym (take-take (ledger .count) capacity items (w .count-most)) ∙ ap (take (ledger .count)) (w .front) in
       λ i. record { open-items = same i; credit = ledger .credit; held = ledger .held }
 
-  spread-at : {owed : ℕ} → owed ≡ unpaidOf (standing ledger .open-items) → Lies items (spreadQueue ledger owed)
-  spread-at {owed} owes =
+  pub spread-fits : Within (standing ledger) → Fit items (queueIn ledger)
+  spread-fits within =
+      let owed-is = sym (ap (λ (x : Standing). unpaidOf (x .open-items)) spread-stands) in
       record {
-        long = w .long;
-        end-most = omega (arith, w .count-most);
-        owed-is = owes ∙ sym (ap (λ (x : Standing). unpaidOf (x .open-items)) (spread-stands owed));
+        lies = record { long = w .long; end-most = omega (arith, w .count-most); owed-is = owed-is };
+        within = subst Within (sym spread-stands) within;
       }
-
-  pub spread-fits : {owed : ℕ} → owed ≡ unpaidOf (standing ledger .open-items) → Within (standing ledger)
-      → Fit items (spreadQueue ledger owed)
-  spread-fits {owed} owes within = record { lies = spread-at owes; within = subst Within (sym (spread-stands owed)) within }

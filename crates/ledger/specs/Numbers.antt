@@ -8,9 +8,10 @@ use lib.ListN.{length, take, drop}
 use Rattle.ledger.specs.declared.Kind.{Kind}
 use Rattle.ledger.specs.declared.Kind.the-variants.{Interest, Price}
 use Rattle.ledger.specs.declared.Item.{Item}
+use Rattle.ledger.specs.declared.Ledger.{Ledger}
 use Rattle.ledger.specs.declared.Coverage.{Coverage}
 use Rattle.ledger.specs.Settling.{reduced, unpaidOf}
-use Rattle.ledger.specs.Posting.{Standing, dueDay}
+use Rattle.ledger.specs.Posting.{Standing, standing, dueDay}
 use Rattle.ledger.specs.declared.Entry.{Entry}
 use Rattle.ledger.specs.declared.Queue.{Queue}
 use Rattle.ledger.specs.declared.numbers.Tally.{Tally}
@@ -119,6 +120,14 @@ itemsAfter day r rest =
 abbrev pub queueOf : ℕ → Standing → Queue
 queueOf front s =
     record { front = front; count = length (s .open-items); owed = unpaidOf (s .open-items); held = s .held; credit = s .credit }
+
+-- The numbers of a ledger, its items at the front, and the ledger of a queue whose items are gathered there.
+abbrev pub queueIn : Ledger → Queue
+queueIn ledger =
+    record { front = 0; count = ledger .count; owed = unpaidOf (standing ledger .open-items); held = ledger .held; credit = ledger .credit }
+
+abbrev pub ledgerOf : Queue → List Item → Ledger
+ledgerOf q items = record { count = q .count; items = items; held = q .held; credit = q .credit }
 
 -- What stands on a queue that lies among these items.
 abbrev pub lying : List Item → Queue → Standing

@@ -7,7 +7,7 @@ ghost use Rattle.ledger.specs.Interest.{isPrice, body, interestOn};
 ghost use Rattle.ledger.specs.Settling.{unpaidOf};
 ghost use Rattle.ledger.specs.Posting.{stored, standing, chargeOf, creditOf, OpenBounds, NetBounds};
 ghost use Rattle.ledger.specs.Limits.{lastCallDay, mostPrice};
-ghost use Rattle.ledger.specs.Numbers.{made};
+ghost use Rattle.ledger.specs.Numbers.{queueIn, ledgerOf, made};
 
 pub mod limits;
 pub mod numbers;
@@ -112,6 +112,32 @@ impl Ledger {
             i += 1;
         }
         sum
+    }
+}
+
+// The numbers of a ledger, its items at the front.
+pub fn queue_in(ledger: Ledger) -> Queue
+    requires { ⌜ OpenBounds ledger ⌝ }
+    ensures { λ r. ⌜ r ≡ queueIn ledger ⌝ }
+{
+    Queue {
+        front: 0,
+        count: ledger.count,
+        owed: ledger.unpaid(),
+        held: ledger.held,
+        credit: ledger.credit,
+    }
+}
+
+// The ledger of a queue whose items are gathered at the front.
+pub fn ledger_of(queue: Queue, items: [Item; CAPACITY]) -> Ledger
+    ensures { λ r. ⌜ r ≡ ledgerOf queue items ⌝ }
+{
+    Ledger {
+        count: queue.count,
+        items,
+        held: queue.held,
+        credit: queue.credit,
     }
 }
 

@@ -7,6 +7,7 @@ use borrow.Author.Needs.{needs}
 use Rattle.lists.proofs.Pad.{length-of-mapped}
 use Rattle.ledger.specs.declared.Item.{Item}
 use Rattle.ledger.specs.Limits.{capacity}
+use Rattle.ledger.specs.Numbers.{queueIn}
 use Rattle.lanes.specs.Lanes.{rows}
 use Rattle.ledger.proofs.Queues.{Spread}
 use Rattle.lanes.proofs.Rows.{rows-long}
@@ -16,7 +17,7 @@ use Rattle.account.specs.declared.Account.{Account}
 use Rattle.frames.specs.Digits.{written}
 use Rattle.lines.specs.declared.Fed.{Fed}
 use Rattle.lines.specs.Going.{state}
-use Rattle.feeding.specs.Working.{accountIn, Lain, Runs, fedIn, queueIn}
+use Rattle.feeding.specs.Working.{accountIn, Lain, Runs, fedIn}
 use Rattle.feeding.specs.Reached.{Ready}
 use Rattle.feeding.proofs.Entering.{account-spread, lain-spread, lain-few, account-gathered}
 use Rattle.feeding.proofs.feed.Statement.{statement}
@@ -49,24 +50,24 @@ module _ (c : tie.After-spread) where
       }
 
 -- The head and the queue are taken.
-module _ (c : tie.After-queue-of) where
+module _ (c : tie.After-queue-in) where
   abbrev spread-at : tie.After-spread
   spread-at = c .before .before .before
 
-  lain : Lain (items spread-at) (c .queue-of .result) (c .before .head-of .result) (account spread-at .estimates)
+  lain : Lain (items spread-at) (c .queue-in .result) (c .before .head-of .result) (account spread-at .estimates)
   lain =
-      subst (λ q. Lain (items spread-at) q (c .before .head-of .result) (account spread-at .estimates)) (sym (c .queue-of .ensures))
+      subst (λ q. Lain (items spread-at) q (c .before .head-of .result) (account spread-at .estimates)) (sym (c .queue-in .ensures))
       (subst (λ h. Lain (items spread-at) (queueIn (account spread-at .ledger)) h (account spread-at .estimates)) (sym (c .before .head-of .ensures))
       (lain-spread (account spread-at) (start spread-at .pre .reached) (items spread-at) (spreads spread-at)))
 
-  state-is : state (accountIn (items spread-at) (c .queue-of .result) (c .before .head-of .result) (account spread-at .estimates)) (start spread-at .args .state .length) (start spread-at .args .state .line) ≡ start spread-at .args .state
+  state-is : state (accountIn (items spread-at) (c .queue-in .result) (c .before .head-of .result) (account spread-at .estimates)) (start spread-at .args .state .length) (start spread-at .args .state .line) ≡ start spread-at .args .state
   state-is =
-      let is = (λ i. accountIn (items spread-at) (c .queue-of .ensures i) (c .before .head-of .ensures i) (account spread-at .estimates)) ∙ account-spread (account spread-at) (start spread-at .pre .reached) (items spread-at) (spreads spread-at) in
+      let is = (λ i. accountIn (items spread-at) (c .queue-in .ensures i) (c .before .head-of .ensures i) (account spread-at .estimates)) ∙ account-spread (account spread-at) (start spread-at .pre .reached) (items spread-at) (spreads spread-at) in
       ap (λ a. state a (start spread-at .args .state .length) (start spread-at .args .state .line)) is
 
 -- The lines are worked.
 module _ (c : tie.After-feed-lines) where
-  abbrev taken-at : tie.After-queue-of
+  abbrev taken-at : tie.After-queue-in
   taken-at = c .before .before .before .before .before .before
 
   abbrev s : tie.Start
@@ -78,8 +79,8 @@ module _ (c : tie.After-feed-lines) where
   runs : Runs (s .args .input .now) (s .args .out .now) (s .args .state) after (c .feed-lines .last .1 .1 .1 .1 .0) (c .feed-lines .last .1 .1 .1 .1 .1 .1 .0) (c .feed-lines .result)
   runs = subst (λ x. Runs (s .args .input .now) (s .args .out .now) x after (c .feed-lines .last .1 .1 .1 .1 .0) (c .feed-lines .last .1 .1 .1 .1 .1 .1 .0) (c .feed-lines .result)) (state-is taken-at) (c .feed-lines .ensures .0)
 
-queue-of-requires : tie.Need-queue-of-requires
-queue-of-requires c κs =
+queue-in-requires : tie.Need-queue-in-requires
+queue-in-requires c κs =
     let p : tie.After-spread = search in
     open-bounds (account p) (reached-whole (account p) (start p .pre .reached))
 
@@ -88,7 +89,7 @@ slice-aggregate-feed-lines c = let p : tie.After-spread = search in sym (line-lo
 
 feed-lines-requires : tie.Need-feed-lines-requires
 feed-lines-requires c κs =
-    let q : tie.After-queue-of = search in
+    let q : tie.After-queue-in = search in
     let p = spread-at q in
     (p .spread .ensures .1, (lain q, (line-long (start p), start p .pre .clear)))
 
@@ -115,7 +116,7 @@ feed-spec =
     (tie.spec
     (λ c κs. record { unpaid-long = refl; amount-long = refl; label-long = refl })  -- spread-requires
     (λ c κs. tt)  -- head-of-requires
-    queue-of-requires
+    queue-in-requires
     slice-aggregate-feed-lines
     feed-lines-requires
     gathered-requires

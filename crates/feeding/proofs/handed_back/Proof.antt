@@ -1,4 +1,6 @@
+use mathlib.Core.Path.{ap, _∙_}
 use borrow.Author.Needs.{needs}
+use Rattle.account.specs.Calls.{accountOf}
 use Rattle.feeding.proofs.handed_back.Statement.{statement}
 use Rattle.feeding.proofs.handed_back.Tie as tie
 
@@ -6,11 +8,13 @@ returns : tie.Need-returns
 returns c =
     let s : tie.Start = search in
     let w = s .args .went in
-    λ i. record { state = record { account = c .account-of .ensures i; length = w .length; line = s .args .line }; taken = w .taken; written = w .written }
+    let is = c .account-of .ensures ∙ ap (accountOf (w .head) (w .estimates)) (c .before .ledger-of .ensures) in
+    λ i. record { state = record { account = is i; length = w .length; line = s .args .line }; taken = w .taken; written = w .written }
 
 pub handed-back-spec : {M : Type 1} → statement M
 handed-back-spec =
     tie.close
     (tie.spec
+    (λ c κs. search needs)  -- ledger-of-requires
     (λ c κs. search needs)  -- account-of-requires
     returns)

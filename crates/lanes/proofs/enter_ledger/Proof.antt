@@ -1,60 +1,62 @@
 -- The items are spread over the lanes, the entry is worked there, and what lies there then is gathered. What stands on the lanes is
 -- what stands on the ledger, before (`spread-stands`) and after (`gathered-is`).
-use mathlib.Core.Path.{_≡_, refl, ap, _∙_}
+use mathlib.Core.Path.{_≡_, refl, sym, ap, subst, _∙_}
 use mathlib.Core.List.{List}
+use Prim.Native.Nat.{_+_}
 use native.Mathlib.Omega.{arith}
 use lib.ListN.{length}
 use borrow.Author.Needs.{needs}
 use Rattle.lists.proofs.Pad.{length-of-mapped}
 use Rattle.ledger.specs.declared.Item.{Item}
+use Rattle.ledger.specs.declared.Queue.{Queue}
 use Rattle.ledger.specs.Limits.{capacity}
 use Rattle.ledger.specs.Settling.{unpaidOf}
 use Rattle.ledger.specs.Posting.{Standing, standing, stored}
 use Rattle.ledger.specs.Entries.{asked, numberOf, next, interestPosted}
-use Rattle.ledger.specs.Numbers.{lying}
-use Rattle.ledger.proofs.Queues.{Spread, spreadQueue, spread-stands, spread-fits, gathered-is}
+use Rattle.ledger.specs.Numbers.{ledgerOf, lying, Fit}
+use Rattle.ledger.proofs.Queues.{Spread, spread-stands, spread-fits, gathered-is}
 use Rattle.lanes.proofs.Rows.{rows-in, rows-long}
 use Rattle.lanes.proofs.enter_ledger.Statement.{statement}
 use Rattle.lanes.proofs.enter_ledger.Tie as tie
 
--- Places: the items are spread, and what is unpaid of them is known.
-abbrev start : tie.After-unpaid2 → tie.Start
+-- Places: the items are spread, and the numbers of the queue are known.
+abbrev start : tie.After-queue-in → tie.Start
 start u = u .before .before .before .before .before .before
 
-abbrev lain : tie.After-unpaid2 → List Item
+abbrev lain : tie.After-queue-in → List Item
 lain u = rows-in (u .before .spread .last .1)
 
 long : (s : tie.Start) → length (s .args .ledger .items) ≡ capacity
 long s = search (length-of-mapped, needs)
 
-spreads : (u : tie.After-unpaid2) → Spread (start u .args .ledger) (lain u)
+spreads : (u : tie.After-queue-in) → Spread (start u .args .ledger) (lain u)
 spreads u =
     let spread = u .before .spread .ensures in
     record { ledger-long = long (start u); count-most = start u .pre .1 .0; long = rows-long (spread .1); front = spread .0 }
 
-stands : (u : tie.After-unpaid2) → lying (lain u) (spreadQueue (start u .args .ledger) (u .unpaid2 .result)) ≡ standing (start u .args .ledger)
-stands u = spread-stands (spreads u) (u .unpaid2 .result)
+stands : (u : tie.After-queue-in) → lying (lain u) (u .queue-in .result) ≡ standing (start u .args .ledger)
+stands u = ap (lying (lain u)) (u .queue-in .ensures) ∙ spread-stands (spreads u)
 
 enter-requires : tie.Need-enter-requires
 enter-requires c κs =
-    let u : tie.After-unpaid2 = search in
+    let u : tie.After-queue-in = search in
     let s = start u in
-    let fit = spread-fits (spreads u) (u .unpaid2 .ensures) (s .pre .0) in
-    (u .before .spread .ensures .1, (fit, (omega (arith, s .pre .1 .0), s .pre .1 .1)))
+    let fit = subst (Fit (lain u)) (sym (u .queue-in .ensures)) (spread-fits (spreads u) (s .pre .0)) in
+    let end = ap (λ (q : Queue). q .front + q .count) (u .queue-in .ensures) in
+    (u .before .spread .ensures .1, (fit, (omega (arith, end, s .pre .1 .0), s .pre .1 .1)))
 
 returns : tie.Need-returns
 returns c =
     let e : tie.After-enter = search in
-    let u : tie.After-unpaid2 = search in
+    let u : tie.After-queue-in = search in
+    let g : tie.After-gathered = search in
     let done = e .enter .ensures .0 in
     let entry = start u .args .entry in
     let q = e .enter .result .queue in
     let same : lying _ q ≡ next entry (standing (start u .args .ledger)) = done .stands ∙ ap (next entry) (stands u) in
     record {
       number-is = done .number-is ∙ ap (λ x. numberOf (asked entry x)) (stands u);
-      ledger-is =
-          (λ i. record { count = q .count; items = c .gathered .ensures i; held = q .held; credit = q .credit }) ∙
-          gathered-is (done .lies) (done .few) ∙ ap stored same;
+      ledger-is = c .ledger-of .ensures ∙ ap (ledgerOf q) (g .gathered .ensures) ∙ gathered-is (done .lies) (done .few) ∙ ap stored same;
       unpaid-is = done .lies .owed-is ∙ ap (λ (x : Standing). unpaidOf (x .open-items)) same;
       interest-is = λ z. done .interest-is z ∙ ap (interestPosted entry) (stands u);
     }
@@ -64,7 +66,8 @@ enter-ledger-spec =
     tie.close
     (tie.spec
     (λ c κs. record { unpaid-long = refl; amount-long = refl; label-long = refl })  -- spread-requires
-    (λ c κs. let s : tie.Start = search in record { count-most = s .pre .1 .0; items-within = s .pre .0 .items-within })  -- unpaid-requires
+    (λ c κs. let s : tie.Start = search in record { count-most = s .pre .1 .0; items-within = s .pre .0 .items-within })  -- queue-in-requires
     enter-requires
     (λ c κs. search needs)  -- gathered-requires
+    (λ c κs. tt)  -- ledger-of-requires
     returns)

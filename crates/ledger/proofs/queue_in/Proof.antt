@@ -1,6 +1,6 @@
 use borrow.Author.Needs.{needs}
-use Rattle.feeding.proofs.queue_of.Statement.{statement}
-use Rattle.feeding.proofs.queue_of.Tie as tie
+use Rattle.ledger.proofs.queue_in.Statement.{statement}
+use Rattle.ledger.proofs.queue_in.Tie as tie
 
 returns : tie.Need-returns
 returns c =
@@ -8,8 +8,8 @@ returns c =
     let ledger = s .args .ledger in
     λ i. record { front = 0; count = ledger .count; owed = c .unpaid .ensures i; held = ledger .held; credit = ledger .credit }
 
-pub queue-of-spec : {M : Type 1} → statement M
-queue-of-spec =
+pub queue-in-spec : {M : Type 1} → statement M
+queue-in-spec =
     tie.close
     (tie.spec
     (λ c κs. search needs)  -- unpaid-requires
