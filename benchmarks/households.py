@@ -7,7 +7,8 @@ import kinds
 import measure
 
 FILES = 100
-ROUNDS = 60  # the best counts
+ROUNDS = 1_000  # over the files: some three seconds, so that what else the machine does falls on both sides alike
+KIND_ROUNDS = 60  # of lines of one kind; the best counts
 SAMPLED = 200  # passes under perf
 REPEATED = 2_100  # lines of one kind
 CALLS = ("opening", "reading", "miss", "miss, absence known", "meter change", "stop", "resumption", "cancellation", "payment", "cancellation")
@@ -23,9 +24,9 @@ class Beside:
         self.work = work
         self.out = str(work / "beside.out")
 
-    def seconds(self, *paths, times=1):
+    def seconds(self, *paths, rounds=KIND_ROUNDS, times=1):
         """Best and median seconds of a pass, by path and side. The outputs are compared first."""
-        words = [self.program, "--rounds", ROUNDS, "--times", times, *paths]
+        words = [self.program, "--rounds", rounds, "--times", times, *paths]
         said = subprocess.check_output([str(word) for word in words], text=True)
         rows = csv.DictReader(said.splitlines(), delimiter="\t")
         return {(row["path"], row["side"]): (int(row["best"]) / 1e9, int(row["median"]) / 1e9) for row in rows}
@@ -65,7 +66,7 @@ def line_kind(line, number):
 def measure_files(beside, folder):
     """Seconds, instructions and copies of a pass over the files, and the functions they go to."""
     rows, profile = [], []
-    for (_, side), (best, median) in beside.seconds(folder).items():
+    for (_, side), (best, median) in beside.seconds(folder, rounds=ROUNDS).items():
         rows.append(("households", side, FILES, f"{best:.9f}", "seconds, best"))
         rows.append(("households, median", side, FILES, f"{median:.9f}", "seconds"))
     for side in SIDES:
