@@ -8,7 +8,7 @@ import measure
 
 FILES = 100
 ROUNDS = 1_000  # over the files: some three seconds, so that what else the machine does falls on both sides alike
-KIND_ROUNDS = 60  # of lines of one kind; the best counts
+KIND_ROUNDS = 600  # of lines of one kind; the best counts
 SAMPLED = 200  # passes under perf
 REPEATED = 2_100  # lines of one kind
 CALLS = ("opening", "reading", "miss", "miss, absence known", "meter change", "stop", "resumption", "cancellation", "payment", "cancellation")
