@@ -3,26 +3,19 @@ use mathlib.Core.Bool.{Bool, true, false, cond}
 use mathlib.Core.List.{List, [], _∷_, _++_}
 use Prim.Native.Nat.{ℕ, _+_}
 use lib.IntN.{ℤ, pos}
-use Rattle.tariff.specs.declared.Fuel.{Fuel}
-use Rattle.tariff.specs.Price.{priceOf}
-use Rattle.meter.specs.declared.Estimate.{Estimate}
-use Rattle.meter.specs.declared.Estimates.{Estimates}
-use Rattle.meter.specs.declared.Meter.{Meter}
+use Rattle.tariff.specs.{declared.Fuel.Fuel, Price.priceOf}
 use Rattle.meter.specs.Metering.{poolTo, setOn, exchangedFor, readAt, missedAt}
-use Rattle.meter.specs.Sharing as Sharing
-use Rattle.meter.specs.Sharing.{finalVolumes}
-use Rattle.ledger.specs.declared.Ledger.{Ledger}
+use Rattle.meter.specs.{declared.Estimate.Estimate, declared.Estimates.Estimates, declared.Meter.Meter, Sharing.finalVolumes}
 use Rattle.ledger.specs.Posting.{Standing, standing, stored, closed, paid, heldPosted}
-use Rattle.intake.specs.declared.Status.{Status}
+use Rattle.ledger.specs.declared.Ledger.{Ledger}
 use Rattle.intake.specs.declared.Status.the-variants.{New, Supplied, Stopped, Cancelled}
-use Rattle.intake.specs.declared.Head.{Head}
-use Rattle.intake.specs.declared.Call.{Call}
-use Rattle.intake.specs.declared.Call.the-variants.{Opening, Reading, Missed, Absent, Exchange, Disconnection, Reconnection, Cancellation, Payment, StoppedCancellation}
-use Rattle.intake.specs.Heads.{headOn}
-use Rattle.intake.specs.Statuses.{isCancelled, startOf, stopOf}
-use Rattle.intake.specs.Periods.{daysOf, dayAfter, resumedStart}
+use Rattle.intake.specs.declared.Call.the-variants.{Opening, Reading, Missed, Absent, Exchange, Disconnection, Reconnection, Cancellation}
+use Rattle.intake.specs.declared.Call.the-variants.{Payment, StoppedCancellation}
+use Rattle.intake.specs.{declared.Status.Status, declared.Head.Head, declared.Call.Call, Heads.headOn}
+use Rattle.intake.specs.{Statuses.isCancelled, Statuses.startOf, Statuses.stopOf, Periods.daysOf, Periods.dayAfter, Periods.resumedStart}
 use Rattle.closing.specs.Closing.{ofThisPeriod, netOf, storedEstimates}
 use Rattle.account.specs.declared.Account.{Account}
+use Rattle.meter.specs.Sharing as Sharing
 
 abbrev pub newAccount : Account
 newAccount =

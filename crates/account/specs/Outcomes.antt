@@ -1,18 +1,12 @@
 -- What a call hands back: the account and the answer.
-use mathlib.Core.Bool.{cond}
-use mathlib.Core.List.{List, []}
+use mathlib.Core.{Bool.cond, List.List, List.[]}
 use Prim.Native.Nat.{ℕ}
-use lib.Dec.{eqb}
-use lib.IntN.{ℤ, pos}
+use lib.{Dec.eqb, IntN.ℤ, IntN.pos}
 use Rattle.meter.specs.Sharing.{volumesOf}
-use Rattle.ledger.specs.Settling.{unpaidOf}
-use Rattle.ledger.specs.Posting.{standing}
-use Rattle.account.specs.declared.Account.{Account}
-use Rattle.account.specs.declared.Answer.{Answer}
-use Rattle.account.specs.declared.Outcome.{Outcome}
-use Rattle.intake.specs.declared.Call.{Call}
-use Rattle.account.specs.Calls.{Work, work}
+use Rattle.ledger.specs.{Settling.unpaidOf, Posting.standing}
+use Rattle.account.specs.{declared.Account.Account, declared.Answer.Answer, declared.Outcome.Outcome, Calls.Work, Calls.work}
 use Rattle.account.specs.Refusals.{lastRefusal, refusal}
+use Rattle.intake.specs.declared.Call.{Call}
 
 -- The answer of an accepted call: number 0, what it worked out, what is unpaid over all open items and the credit after it.
 abbrev pub acceptance : ℕ → List ℕ → ℤ → ℕ → ℕ → ℕ → Answer

@@ -3,12 +3,8 @@ use mathlib.Core.Bool.{cond}
 use Prim.Native.Nat.{ℕ}
 use lib.Dec.{ltb}
 use Rattle.ledger.specs.declared.Ledger.{Ledger}
-use Rattle.intake.specs.declared.Call.{Call}
-use Rattle.intake.specs.Refusals.{unless, firstRefusal}
-use Rattle.account.specs.declared.Account.{Account}
-use Rattle.account.specs.Limits.{itemsAllowed, creditAllowed}
-use Rattle.account.specs.Calls.{headOf, work}
-use Rattle.account.specs.Whole.{whole}
+use Rattle.intake.specs.{declared.Call.Call, Refusals.unless, Refusals.firstRefusal}
+use Rattle.account.specs.{declared.Account.Account, Limits.itemsAllowed, Limits.creditAllowed, Calls.headOf, Calls.work, Whole.whole}
 
 -- 12 and 13: what would be open, and the credit, when the call ends.
 abbrev pub lastRefusal : Ledger → ℕ

@@ -2,19 +2,15 @@
 use mathlib.Core.Bool.{Bool, true, false, cond, not, _&&_, _||_}
 use Prim.Native.Nat.{ℕ, _+_}
 use lib.Dec.{leb, eqb}
+use Rattle.common.specs.Range.{within}
 use Rattle.lists.specs.Every.{every, same}
-use Rattle.meter.specs.declared.Estimate.{Estimate}
-use Rattle.meter.specs.declared.Estimates.{Estimates}
-use Rattle.ledger.specs.declared.Item.{Item}
-use Rattle.ledger.specs.declared.Ledger.{Ledger}
-use Rattle.ledger.specs.Interest.{isPrice}
-use Rattle.ledger.specs.Posting.{standing}
-use Rattle.intake.specs.declared.Status.{Status}
-use Rattle.intake.specs.declared.Status.the-variants.{New, Supplied, Stopped, Cancelled}
-use Rattle.account.specs.declared.Account.{Account}
+use Rattle.meter.specs.{declared.Estimate.Estimate, declared.Estimates.Estimates}
+use Rattle.ledger.specs.{declared.Item.Item, declared.Ledger.Ledger, Interest.isPrice, Posting.standing}
 use Rattle.ledger.specs.Limits.{mostPrice, mostInterest}
-use Rattle.intake.specs.Limits.{mostDays, mostCharge, within, dayAllowed, digitsAllowed, onDial, fuelAllowed, missesAllowed, volumeAllowed}
-use Rattle.account.specs.Limits.{lastDueDay, itemsAllowed, creditAllowed}
+use Rattle.intake.specs.declared.Status.the-variants.{New, Supplied, Stopped, Cancelled}
+use Rattle.intake.specs.Limits.{mostDays, mostCharge, dayAllowed, digitsAllowed, onDial, fuelAllowed, missesAllowed, volumeAllowed}
+use Rattle.intake.specs.declared.Status.{Status}
+use Rattle.account.specs.{declared.Account.Account, Limits.lastDueDay, Limits.itemsAllowed, Limits.creditAllowed}
 use Rattle.account.specs.Calls.{newAccount, standingEstimates}
 
 -- Two marks that agree, and two places of an array, field for field.
@@ -71,7 +67,8 @@ wholeEstimate estimate =
     volumeAllowed (estimate .volume) &&
     leb (estimate .charged) mostCharge
 
--- An item: 1 to its amount unpaid, price items at most 10^9, interest items at most 10^12, no obligation day past the latest day, no due day past 36,524.
+-- An item: 1 to its amount unpaid, price items at most 10^9, interest items at most 10^12, no obligation day past the latest day,
+-- no due day past 36,524.
 unfoldable pub wholeItem : ℕ → Item → Bool
 wholeItem latest item =
     within 1 (item .amount) (item .unpaid) &&

@@ -1,15 +1,10 @@
 -- What a plan comes to on an account.
-use mathlib.Core.Bool.{cond}
-use mathlib.Core.List.{List}
+use mathlib.Core.{Bool.cond, List.List}
 use Prim.Native.Nat.{ℕ}
 use Rattle.meter.specs.declared.Estimates.{Estimates}
-use Rattle.ledger.specs.declared.Ledger.{Ledger}
-use Rattle.ledger.specs.Posting.{standing, stored}
-use Rattle.ledger.specs.Entries.{asked, interestPosted}
-use Rattle.plan.specs.declared.Plan.{Plan}
-use Rattle.plan.specs.Plans.{changed}
-use Rattle.account.specs.declared.Answer.{Answer}
-use Rattle.account.specs.Calls.{accountOf, Work}
+use Rattle.ledger.specs.{declared.Ledger.Ledger, Posting.standing, Posting.stored, Entries.asked, Entries.interestPosted}
+use Rattle.plan.specs.{declared.Plan.Plan, Plans.changed}
+use Rattle.account.specs.{declared.Answer.Answer, Calls.accountOf, Calls.Work}
 
 -- The work that a plan comes to.
 abbrev pub ledgerAfter : Plan → Ledger → Ledger

@@ -55,7 +55,8 @@ fn carry_out(account: Account, plan: Plan, volumes: [u32; 7]) -> Outcome
     requires { ⌜ whole account ≡ true ⌝ }
     requires { ⌜ Room (plan .change) (account .estimates .count) ⌝ }
     requires { ⌜ EntryBounds (plan .entry) ⌝ }
-    ensures { λ r. ⌜ ((final : List ℕ) → record { count = plan .count; volumes = volumes } ≡ volumesOf final → r ≡ concluded account (workOf plan final (account .estimates) (account .ledger))) ⌝ }
+    ensures { λ r. ⌜ ((final : List ℕ) → record { count = plan .count; volumes = volumes } ≡ volumesOf final
+        → r ≡ concluded account (workOf plan final (account .estimates) (account .ledger))) ⌝ }
 {
     let change = plan.change;
     let estimates = changed(change, account.estimates);

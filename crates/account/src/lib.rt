@@ -1,6 +1,7 @@
 // A gas account: its status, what it holds, the calls made on it and their answers.
 ghost use mathlib.Core.Path.{_≡_};
-ghost use Rattle.intake.specs.declared.Call.the-variants.{Opening, Reading, Missed, Absent, Exchange, Disconnection, Reconnection, Cancellation, Payment, StoppedCancellation};
+ghost use Rattle.intake.specs.declared.Call.the-variants.{Opening, Reading, Missed, Absent, Exchange, Disconnection};
+ghost use Rattle.intake.specs.declared.Call.the-variants.{Reconnection, Cancellation, Payment, StoppedCancellation};
 ghost use Rattle.account.specs.Calls.{newAccount};
 ghost use Rattle.account.specs.Outcomes.{outcome};
 
@@ -63,7 +64,7 @@ impl Account {
         }
     }
 
-    // 01
+    // 01: opening
     pub fn begin_supply(mut self, day: u16, reading: u32, digits: u8) -> Outcome
         ensures { λ r. ⌜ r ≡ outcome self (Opening day reading digits) ⌝ }
     {
@@ -74,28 +75,28 @@ impl Account {
         })
     }
 
-    // 02
+    // 02: reading
     pub fn read_meter(mut self, day: u16, reading: u32, fuel: Fuel) -> Outcome
         ensures { λ r. ⌜ r ≡ outcome self (Reading day reading fuel) ⌝ }
     {
         self.apply(Call::Reading { day, reading, fuel })
     }
 
-    // 03
+    // 03: missed reading
     pub fn miss_reading(mut self, day: u16, fuel: Fuel) -> Outcome
         ensures { λ r. ⌜ r ≡ outcome self (Missed day fuel) ⌝ }
     {
         self.apply(Call::Missed { day, fuel })
     }
 
-    // 04
+    // 04: missed reading, absence known
     pub fn note_absence(mut self, day: u16, fuel: Fuel) -> Outcome
         ensures { λ r. ⌜ r ≡ outcome self (Absent day fuel) ⌝ }
     {
         self.apply(Call::Absent { day, fuel })
     }
 
-    // 05
+    // 05: meter change
     pub fn exchange_meter(mut self, day: u16, old: u32, new: u32, digits: u8) -> Outcome
         ensures { λ r. ⌜ r ≡ outcome self (Exchange day old new digits) ⌝ }
     {
@@ -107,14 +108,14 @@ impl Account {
         })
     }
 
-    // 06
+    // 06: stop
     pub fn disconnect(mut self, day: u16, reading: u32, fuel: Fuel) -> Outcome
         ensures { λ r. ⌜ r ≡ outcome self (Disconnection day reading fuel) ⌝ }
     {
         self.apply(Call::Disconnection { day, reading, fuel })
     }
 
-    // 07
+    // 07: resumption
     pub fn reconnect(mut self, day: u16, reading: u32, digits: u8) -> Outcome
         ensures { λ r. ⌜ r ≡ outcome self (Reconnection day reading digits) ⌝ }
     {
@@ -125,21 +126,21 @@ impl Account {
         })
     }
 
-    // 08
+    // 08: cancellation
     pub fn cancel(mut self, day: u16, reading: u32, fuel: Fuel) -> Outcome
         ensures { λ r. ⌜ r ≡ outcome self (Cancellation day reading fuel) ⌝ }
     {
         self.apply(Call::Cancellation { day, reading, fuel })
     }
 
-    // 09
+    // 09: payment
     pub fn pay(mut self, day: u16, yen: u32) -> Outcome
         ensures { λ r. ⌜ r ≡ outcome self (Payment day yen) ⌝ }
     {
         self.apply(Call::Payment { day, yen })
     }
 
-    // 0a
+    // 0a: cancellation while stopped
     pub fn cancel_stopped(mut self, day: u16) -> Outcome
         ensures { λ r. ⌜ r ≡ outcome self (StoppedCancellation day) ⌝ }
     {

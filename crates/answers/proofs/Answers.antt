@@ -1,19 +1,8 @@
 -- Laws of answers. Assumes nothing.
-use mathlib.Core.Path.{_≡_, refl, sym, ap, _∙_}
-use mathlib.Core.Bool.{true, false, true≢false}
-use mathlib.Core.List.{List, [], _∷_, _++_}
-use Prim.Native.Nat.{ℕ, suc, _-_, _^_, _≤_, _<_}
-use native.Mathlib.Nat.{not-suc-le-zero}
-use native.Mathlib.Omega.{arith}
-use lib.Dec.{T}
-use lib.ListN.{length, take}
-use lib.Seq.{length-take-le}
-use lib.IntN.{ℤ, pos, negsuc, natAbs}
-use lib.Signed.{ltZ, nonNeg}
-use mir.Syntax.{w32}
-use mir.Val.{Fits, SFits, toZ, ofZ}
-use mir.Facts.{toZ-pos}
-use borrow.Author.Tests.{ltb-true}
+use Rattle.common.proofs.Words.{_≡_, refl, sym, ap, _∙_, true, false, true≢false, List, [], _∷_, _++_, ℕ, suc, _-_, _^_, _≤_, _<_}
+use Rattle.common.proofs.Words.{not-suc-le-zero, arith, T, length, take, length-take-le, ℤ, pos, negsuc, natAbs, ltZ, nonNeg, w32, SFits}
+use Rattle.common.proofs.Words.{toZ, ofZ, toZ-pos, ltb-true}
+use mir.Val.{Fits}
 use Rattle.lists.specs.Pad.{pad}
 use Rattle.lists.proofs.Pad.{take-pad}
 use Rattle.frames.specs.Digits.{lineFeed}
@@ -30,11 +19,9 @@ pub turned : (net : ℤ) → SFits w32 net → ltZ net (pos 0) ≡ true → Turn
 turned (pos n) f e = absurd (not-suc-le-zero (ltb-true n 0 e))
 turned (negsuc n) f e =
     let h : n < 2 ^ 31 = f .sfits in
-    let same : toZ w32 (4294967295 - (2 ^ 32 - suc n)) ≡ pos n = ap (toZ w32) (inner h) ∙ toZ-pos w32 h in
-    record { is-natural = rw same tt; fits = rw same (record { fits = omega (arith, h) }); back = rw same (omega (arith, h)) }
-  where
-    inner : n < 2 ^ 31 → 4294967295 - (2 ^ 32 - suc n) ≡ n
-    inner h = omega (arith, h)
+    let inner : 4294967295 - (2 ^ 32 - suc n) ≡ n = omega arith in
+    let same : toZ w32 (4294967295 - (2 ^ 32 - suc n)) ≡ pos n = ap (toZ w32) inner ∙ toZ-pos w32 h in
+    record { is-natural = rw same tt; fits = rw same (record { fits = omega arith }); back = rw same (omega arith) }
 
 -- A net that isn't.
 pub as-it-is : (net : ℤ) → ltZ net (pos 0) ≡ false → natAbs net ≡ twosComplement net
@@ -42,10 +29,12 @@ as-it-is (pos n) e = refl
 as-it-is (negsuc n) e = absurd (true≢false e)
 
 -- The volumes that an accepted call made final, lent with their number, are those that its answer holds.
-pub accepted-line : (estimated count : ℕ) (volumes : List ℕ) (net : ℤ) (interest unpaid credit : ℕ) → length volumes ≡ 7 → count ≤ 7 → answerLine (answerOf 0 estimated count volumes net interest unpaid credit) ≡ answerLine (acceptance estimated (take count volumes) net interest unpaid credit)
+pub accepted-line : (estimated count : ℕ) (volumes : List ℕ) (net : ℤ) (interest unpaid credit : ℕ) → length volumes ≡ 7 → count ≤ 7
+    → answerLine (answerOf 0 estimated count volumes net interest unpaid credit)
+    ≡ answerLine (acceptance estimated (take count volumes) net interest unpaid credit)
 unfolding answerLine
 accepted-line estimated count volumes net interest unpaid credit long few =
     let final = take count volumes in
-    let count-is : count ≡ length final = sym (length-take-le count volumes (omega (arith, long, few))) in
+    let count-is : count ≡ length final = sym (length-take-le count volumes (omega arith)) in
     let shown-is : final ≡ take (length final) (pad 7 0 final) = sym (take-pad 0 7 final) in
     (λ i. (headBytes 0 estimated (count-is i) ++ volumesBytes (shown-is i) ++ amountsBytes net interest unpaid credit) ++ (lineFeed ∷ []))

@@ -1,11 +1,11 @@
 -- Output of `bill`: the frame of an answer, one a line.
+use mathlib.Core.Path.{_≡_}
 use mathlib.Core.List.{List, [], _∷_, _++_}
-use Prim.Native.Nat.{ℕ, suc, _-_, _^_}
-use lib.IntN.{ℤ, pos, negsuc}
-use lib.ListN.{take}
+use Prim.Native.Nat.{ℕ, suc, _+_, _-_, _^_, _≤_}
+use lib.{IntN.ℤ, IntN.pos, IntN.negsuc, ListN.length, ListN.take}
 use Rattle.lists.specs.Joined.{joined}
 use Rattle.account.specs.declared.Answer.{Answer}
-use Rattle.frames.specs.Digits.{lineFeed, bytes}
+use Rattle.frames.specs.Digits.{lineFeed, bytes, PairTable}
 
 -- An answer by its numbers.
 abbrev pub answerOf : ℕ → ℕ → ℕ → List ℕ → ℤ → ℕ → ℕ → ℕ → Answer
@@ -56,3 +56,10 @@ answerLine answer = answerFrame answer ++ (lineFeed ∷ [])
 -- No answer has more than seven volumes, so no line is longer.
 abbrev pub longestAnswer : ℕ
 longestAnswer = 117
+
+-- What the answer to a call that is accepted is written with: its volumes in seven places, room for the longest line, and the table.
+pub record Accepting (volumes : List ℕ) (count : ℕ) (out : List ℕ) (at : ℕ) (pairs : List ℕ) : Type 0 where
+  pub seven : length volumes ≡ 7
+  pub few : count ≤ 7
+  pub room : at + longestAnswer ≤ length out
+  pub table : PairTable pairs

@@ -1,11 +1,8 @@
 -- Output of `notice`: the line of an open item.
 use mathlib.Core.List.{List, [], _∷_, _++_}
 use Prim.Native.Nat.{ℕ}
-use Rattle.calendar.specs.declared.FoundDate.{FoundDate}
-use Rattle.calendar.specs.Conversions.{toDate}
-use Rattle.ledger.specs.declared.Kind.{Kind}
-use Rattle.ledger.specs.declared.Kind.the-variants.{Interest, Price}
-use Rattle.ledger.specs.declared.Item.{Item}
+use Rattle.calendar.specs.{declared.FoundDate.FoundDate, Conversions.toDate}
+use Rattle.ledger.specs.{declared.Kind.Kind, declared.Kind.the-variants.Interest, declared.Kind.the-variants.Price, declared.Item.Item}
 use Rattle.frames.specs.Digits.{digits, bytes, lineFeed}
 
 -- 01 interest, 02 price.

@@ -4,7 +4,7 @@ ghost use Prim.Native.Nat.{_+_, _≤_};
 ghost use lib.ListN.{length, take, replicate};
 ghost use Rattle.frames.specs.Digits.{glyph, PairTable, digits, bytes, written};
 ghost use Rattle.calendar.specs.Conversions.{toDate};
-ghost use Rattle.answers.specs.Answers.{twosComplement, volumesBytes, headBytes, amountsBytes, answerLine, longestAnswer};
+ghost use Rattle.answers.specs.Answers.{twosComplement, volumesBytes, headBytes, amountsBytes, answerLine, longestAnswer, Accepting};
 ghost use Rattle.account.specs.Outcomes.{acceptance, declining};
 ghost use Rattle.answers.specs.Notices.{kindNumber, dateDigits, noticeLine, noticeLength};
 use calendar::Day;
@@ -47,11 +47,9 @@ pub fn put_accepted(
     at: usize,
     pairs: &[u8; 512],
 ) -> usize
-    requires { ⌜ length (now volumes) ≡ 7 ⌝ }
-    requires { ⌜ count ≤ 7 ⌝ }
-    requires { ⌜ at + longestAnswer ≤ length (now out) ⌝ }
-    requires { ⌜ PairTable (now pairs) ⌝ }
-    ensures { λ _. ⌜ now (out .exit) ≡ written (now (out .entry)) at (answerLine (acceptance estimated (take count (now (volumes .entry))) net interest unpaid credit)) ⌝ }
+    requires { ⌜ Accepting (now volumes) count (now out) at (now pairs) ⌝ }
+    ensures { λ _. ⌜ now (out .exit) ≡
+        written (now (out .entry)) at (answerLine (acceptance estimated (take count (now (volumes .entry))) net interest unpaid credit)) ⌝ }
     ensures { λ r. ⌜ r ≡ at + length (answerLine (acceptance estimated (take count (now (volumes .entry))) net interest unpaid credit)) ⌝ }
     ensures { λ r. ⌜ r ≤ at + longestAnswer ⌝ }
 {

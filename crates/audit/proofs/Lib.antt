@@ -3,6 +3,7 @@ pub mod Entries
 pub mod Balance
 pub mod Periods
 pub mod Matching
+pub mod Standings
 pub mod Readings
 pub mod Misses
 pub mod Meters

@@ -2,20 +2,16 @@
 use mathlib.Core.Bool.{Bool, true, false, cond, not, _&&_, _||_}
 use mathlib.Core.List.{List, [], _∷_, _++_, map, reverse}
 use Prim.Native.Nat.{ℕ, suc, _+_, _-_}
-use lib.Dec.{leb, ltb, eqb}
 use lib.IntN.{ℤ, pos, negsuc, subℕ}
+use lib.Dec.{leb, ltb, eqb}
 use Rattle.lists.specs.Sum.{total}
-use Rattle.tariff.specs.declared.Fuel.{Fuel}
-use Rattle.tariff.specs.Price.{priceOf}
-use Rattle.meter.specs.declared.Estimate.{Estimate}
-use Rattle.meter.specs.Dial.{advance}
-use Rattle.meter.specs.Sharing.{finalVolumes}
-use Rattle.ledger.specs.declared.Kind.{Kind}
-use Rattle.ledger.specs.declared.Kind.the-variants.{Interest, Price}
-use Rattle.ledger.specs.declared.Item.{Item}
+use Rattle.tariff.specs.{declared.Fuel.Fuel, Price.priceOf}
+use Rattle.meter.specs.{declared.Estimate.Estimate, Dial.advance, Sharing.finalVolumes}
+use Rattle.ledger.specs.{declared.Kind.Kind, declared.Kind.the-variants.Interest, declared.Kind.the-variants.Price, declared.Item.Item}
 use Rattle.ledger.specs.Interest.{interestOn}
+use Rattle.intake.specs.declared.Call.the-variants.{Opening, Reading, Missed, Absent, Exchange, Disconnection, Reconnection, Cancellation}
+use Rattle.intake.specs.declared.Call.the-variants.{Payment, StoppedCancellation}
 use Rattle.intake.specs.declared.Call.{Call}
-use Rattle.intake.specs.declared.Call.the-variants.{Opening, Reading, Missed, Absent, Exchange, Disconnection, Reconnection, Cancellation, Payment, StoppedCancellation}
 
 pub record Period : Type 0 where
   -- the call that closed it

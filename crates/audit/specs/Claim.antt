@@ -1,19 +1,12 @@
 -- Demand 3: what holds after every list of calls from a new account, declined ones among them.
-use mathlib.Core.Path.{_≡_}
-use mathlib.Core.Bool.{true}
-use mathlib.Core.List.{List, [], _∷_}
+use mathlib.Core.{Path._≡_, Bool.true, List.List, List.[], List._∷_}
 use Prim.Native.Nat.{ℕ, _+_}
 use lib.ListN.{take}
 use Rattle.lists.specs.Sum.{total, sum}
-use Rattle.ledger.specs.Settling.{unpaidOf}
-use Rattle.ledger.specs.Posting.{standing}
-use Rattle.account.specs.declared.Account.{Account}
-use Rattle.account.specs.declared.Answer.{Answer}
-use Rattle.intake.specs.declared.Call.{Call}
-use Rattle.account.specs.declared.Outcome.{Outcome}
-use Rattle.account.specs.Calls.{newAccount}
-use Rattle.account.specs.Outcomes.{outcome}
+use Rattle.ledger.specs.{Settling.unpaidOf, Posting.standing}
+use Rattle.account.specs.{declared.Account.Account, declared.Answer.Answer, declared.Outcome.Outcome, Calls.newAccount, Outcomes.outcome}
 use Rattle.account.specs.Whole.{whole}
+use Rattle.intake.specs.declared.Call.{Call}
 use Rattle.audit.specs.Book.{Book, empty, enter, prices}
 
 -- A list of calls, each given the account that the one before handed back: the account and the book after it, and the answers, the latest first.
@@ -48,7 +41,9 @@ pub record Reconciled (r : Run) : Type 0 where
   -- final volumes = what the meters advanced under supply up to the latest real closing
   pub volumes : total finalVolume (r .answers) ≡ r .book .metering .advanced
   -- yen received + unpaid + interest held = prices at standing volumes + interest arisen + credit
-  pub yen : r .book .money .received + unpaidOn (r .account) + r .account .ledger .held ≡ prices (r .book .periods) + r .book .money .arisen + r .account .ledger .credit
+  pub yen :
+      r .book .money .received + unpaidOn (r .account) + r .account .ledger .held ≡
+      prices (r .book .periods) + r .book .money .arisen + r .account .ledger .credit
   pub is-whole : whole (r .account) ≡ true
   -- a declined call leaves account and book as they are
   pub declined : (call : Call) → (outcome (r .account) call .answer .number ≡ 0 → ⊥) → (step r call .account ≡ r .account) × (step r call .book ≡ r .book)

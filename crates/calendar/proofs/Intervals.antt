@@ -1,14 +1,12 @@
 -- A function that never falls cuts the numbers into intervals, each number in one of them. Assumes nothing.
-use mathlib.Core.Path.{_≡_}
-use mathlib.Core.Logic.{⊎-elim}
-use Prim.Native.Nat.{ℕ, zero, suc, _≤_, _<_}
-use native.Mathlib.Nat.{le-suc-iff, le-trans, le-refl, lt-of-not-le, le-antisymm}
-use native.Mathlib.Omega.{arith}
+use Rattle.common.proofs.Words.{_≡_, ⊎-elim, ℕ, zero, suc, _≤_, _<_, le-trans, le-refl, lt-of-not-le, arith}
+use native.Mathlib.Nat.{le-suc-iff, le-antisymm}
 
 module _ (f : ℕ → ℕ) (rises : (k : ℕ) → f k ≤ f (suc k)) where
   pub never-falls : (j k : ℕ) → j ≤ k → f j ≤ f k
   never-falls j zero h = let z : j ≡ 0 = omega arith in rw z (le-refl (f 0))
-  never-falls j (suc k) h = ⊎-elim (λ (l : j ≤ k). le-trans (never-falls j k l) (rises k)) (λ (e : j ≡ suc k). rw e (le-refl (f (suc k)))) (le-suc-iff .0 h)
+  never-falls j (suc k) h =
+      ⊎-elim (λ (l : j ≤ k). le-trans (never-falls j k l) (rises k)) (λ (e : j ≡ suc k). rw e (le-refl (f (suc k)))) (le-suc-iff .0 h)
 
   not-after : (j k n : ℕ) → n < f (suc j) → f k ≤ n → k ≤ j
   not-after j k n a b = le-pred (lt-of-not-le (λ (h : suc j ≤ k). omega (arith, never-falls (suc j) k h)))

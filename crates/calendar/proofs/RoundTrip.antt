@@ -1,27 +1,12 @@
 -- The two conversions undo each other on the whole range. Assumes nothing.
-use mathlib.Core.Path.{_≡_}
-use mathlib.Core.Bool.{true, _&&_, and-eq-true-iff}
-use Prim.Native.Nat.{ℕ, suc, _+_, _-_, _≤_}
-use native.Mathlib.Nat.{lt-of-not-le}
-use native.Mathlib.Omega.{arith}
-use lib.Dec.{leb}
-use borrow.Author.Tests.{leb-true, le-leb}
-use Rattle.calendar.specs.declared.Date.{Date}
-use Rattle.calendar.specs.declared.FoundDate.{FoundDate}
-use Rattle.calendar.specs.declared.FoundDay.{FoundDay}
+use Rattle.common.proofs.Words.{_≡_, true, _&&_, and-eq-true-iff, ℕ, suc, _+_, _-_, _≤_, lt-of-not-le, arith}
+use Rattle.common.specs.Range.{within}
+use Rattle.common.proofs.Tests.{within-true, within-intro}
 use Rattle.calendar.specs.Gregorian.{monthLength, dateAt, daysBeforeYear, dayNumber}
-use Rattle.calendar.specs.Conversions.{firstNumber, lastNumber, within, isDate, toDate, fromDate}
-use Rattle.calendar.proofs.Intervals.{never-falls}
-use Rattle.calendar.proofs.Years.{years-rise, days-before-year}
+use Rattle.calendar.specs.Conversions.{firstNumber, lastNumber, isDate, toDate, fromDate}
+use Rattle.calendar.specs.{declared.Date.Date, declared.FoundDate.FoundDate, declared.FoundDay.FoundDay}
 use Rattle.calendar.proofs.Dates.{Valid, date-valid, date-number, number-date, own-year}
-
-pub within-true : (low high n : ℕ) → within low high n ≡ true → (low ≤ n) × (n ≤ high)
-within-true low high n e =
-    let both = and-eq-true-iff (leb low n) (leb n high) .0 e in
-    (leb-true low n (both .0), leb-true n high (both .1))
-
-true-within : (low high n : ℕ) → low ≤ n → n ≤ high → within low high n ≡ true
-true-within low high n l h = rw (le-leb low n l, le-leb n high h)
+use Rattle.calendar.proofs.{Intervals.never-falls, Years.years-rise, Years.days-before-year}
 
 -- What the test of a date says.
 pub record Tested (date : Date) : Type 0 where
@@ -31,20 +16,21 @@ pub record Tested (date : Date) : Type 0 where
 pub tested : (date : Date) → isDate date ≡ true → Tested date
 unfolding isDate
 tested date e =
-    let outer = and-eq-true-iff (within 2000 2099 (date .year) && within 1 12 (date .month)) (within 1 (monthLength (date .year) (date .month)) (date .day)) .0 e in
+    let length = monthLength (date .year) (date .month) in
+    let outer = and-eq-true-iff (within 2000 2099 (date .year) && within 1 12 (date .month)) (within 1 length (date .day)) .0 e in
     let inner = and-eq-true-iff (within 2000 2099 (date .year)) (within 1 12 (date .month)) .0 (outer .0) in
     let years = within-true 2000 2099 (date .year) (inner .0) in
     let months = within-true 1 12 (date .month) (inner .1) in
-    let days = within-true 1 (monthLength (date .year) (date .month)) (date .day) (outer .1) in
-    record { valid = record { from-2000 = years .0; in-year = record { from-january = months .0; to-december = months .1 }; from-first = days .0; in-month = days .1 }; to-2099 = years .1 }
+    let days = within-true 1 length (date .day) (outer .1) in
+    omega arith
 
 pub passes : (date : Date) → Tested date → isDate date ≡ true
 unfolding isDate
 passes date t =
     rw (
-      true-within 2000 2099 (date .year) (t .valid .from-2000) (t .to-2099),
-      true-within 1 12 (date .month) (t .valid .in-year .from-january) (t .valid .in-year .to-december),
-      true-within 1 (monthLength (date .year) (date .month)) (date .day) (t .valid .from-first) (t .valid .in-month),
+      within-intro 2000 2099 (date .year) (t .valid .from-2000) (t .to-2099),
+      within-intro 1 12 (date .month) (t .valid .in-year .from-january) (t .valid .in-year .to-december),
+      within-intro 1 (monthLength (date .year) (date .month)) (date .day) (t .valid .from-first) (t .valid .in-month),
     )
 
 -- The years to 2099 hold the day numbers to the last.
@@ -59,7 +45,8 @@ years-mono a b h l =
 
 pub number-within : (date : Date) → Tested date → dayNumber date ≤ lastNumber
 number-within date t =
-    omega (arith, own-year date (t .valid) .1, years-mono (suc (date .year)) 2100 (omega (arith, t .valid .from-2000)) (omega (arith, t .to-2099)), century-ends)
+    let later = years-mono (date .year + 1) 2100 (omega (arith, t .valid .from-2000)) (omega (arith, t .to-2099)) in
+    omega (arith, own-year date (t .valid) .not-over, later, century-ends)
 
 pub date-tested : (number : ℕ) → number ≤ lastNumber → Tested (dateAt number)
 date-tested number h =
@@ -67,7 +54,8 @@ date-tested number h =
   where
     before-2100 : 2100 ≤ dateAt number .year → ⊥
     before-2100 l =
-        omega (arith, years-mono 2100 (dateAt number .year) (omega arith) l, century-ends, own-year (dateAt number) (date-valid number) .0, date-number number)
+        let own = own-year (dateAt number) (date-valid number) in
+        omega (arith, years-mono 2100 (dateAt number .year) (omega arith) l, century-ends, own .begun, date-number number)
 
 -- From a number to its date and back.
 pub from-to : (number : ℕ) → number ≤ lastNumber → fromDate (dateAt number) ≡ FoundDay.Day (record { number = number })
@@ -78,4 +66,5 @@ from-to number h = rw (passes (dateAt number) (date-tested number h), date-numbe
 pub to-from : (date : Date) → isDate date ≡ true → toDate (dayNumber date) ≡ FoundDate.Date date
 unfolding toDate
 to-from date e =
-    rw (true-within firstNumber lastNumber (dayNumber date) (omega arith) (number-within date (tested date e)), number-date date (tested date e .valid))
+    let t = tested date e in
+    rw (within-intro firstNumber lastNumber (dayNumber date) (omega arith) (number-within date t), number-date date (t .valid))

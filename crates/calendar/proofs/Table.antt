@@ -1,16 +1,10 @@
 -- The rule of the table of days before each month, by one computed test over the table. Assumes nothing.
-use mathlib.Core.Path.{_≡_, refl}
-use mathlib.Core.Logic.{⊎-elim}
-use mathlib.Core.Bool.{Bool, true, false, cond, _&&_, and-eq-true-iff}
-use mathlib.Core.List.{List, [], _∷_}
-use Prim.Native.Nat.{ℕ, zero, suc, _+_, _-_, _≤_, _<_}
-use native.Mathlib.Nat.{not-suc-le-zero, le-of-suc-le-suc, eq-or-lt-of-le}
-use native.Mathlib.Omega.{arith}
-use lib.Dec.{leb, ltb, eqb}
-use lib.ListN.{getD, take}
-use borrow.Author.Tests.{leb-true, eqb-true, lt-ltb, le-ltb}
+use Rattle.common.proofs.Words.{_≡_, refl, ⊎-elim, Bool, true, false, cond, _&&_, and-eq-true-iff, List, [], _∷_, ℕ, zero, suc, _+_, _-_}
+use Rattle.common.proofs.Words.{_≤_, _<_, not-suc-le-zero, le-of-suc-le-suc, eq-or-lt-of-le, arith, leb, ltb, eqb, getD, take, leb-true}
+use Rattle.common.proofs.Words.{eqb-true, lt-ltb, le-ltb}
 use Rattle.lists.specs.Sum.{sum}
 use Rattle.calendar.specs.Gregorian.{leapYear, monthLengths, daysBeforeMonth}
+use Rattle.calendar.proofs.Months.{lengths}
 
 abbrev allBelow : ℕ → (ℕ → Bool) → Bool
 allBelow zero test = true
@@ -26,16 +20,13 @@ abbrev pub table : List ℕ
 table = 0 ∷ 31 ∷ 59 ∷ 90 ∷ 120 ∷ 151 ∷ 181 ∷ 212 ∷ 243 ∷ 273 ∷ 304 ∷ 334 ∷ 365 ∷ []
 
 -- the days before a month, by the table: one more after February of a leap year
-abbrev pub tabled : Bool → ℕ → ℕ
+abbrev tabled : Bool → ℕ → ℕ
 tabled leap k = getD table k 0 + cond (ltb 1 k && leap) 1 0
 
 right : (year k : ℕ) → k < 13 → sum (take k (monthLengths year)) ≡ tabled (leapYear year) k
 unfolding monthLengths
 right year k h = go (leapYear year)
   where
-    lengths : Bool → List ℕ
-    lengths leap = 31 ∷ cond leap 29 28 ∷ 31 ∷ 30 ∷ 31 ∷ 30 ∷ 31 ∷ 31 ∷ 30 ∷ 31 ∷ 30 ∷ 31 ∷ []
-
     test : Bool → ℕ → Bool
     test leap j = eqb (sum (take j (lengths leap))) (tabled leap j)
 

@@ -1,9 +1,6 @@
 -- The years, of any number and from 2000 to 2099. Assumes nothing.
-use mathlib.Core.Path.{_≡_, refl, ap}
-use mathlib.Core.Bool.{Bool, true, false, cond, not, _||_, and-true, or-true}
-use Prim.Native.Nat.{ℕ, zero, suc, _+_, _-_, _*_, _/_, _%_, _≤_}
-use native.Mathlib.Omega.{arith}
-use borrow.Author.Tests.{eqb-true, eqb-false, eq-eqb}
+use Rattle.common.proofs.Words.{_≡_, refl, ap, Bool, true, false, cond, not, _||_, and-true, or-true, ℕ, zero, suc, _+_, _-_, _*_, _/_, _%_}
+use Rattle.common.proofs.Words.{_≤_, arith, eqb-true, eqb-false, eq-eqb}
 use Rattle.calendar.specs.Gregorian.{divides, leapYear, yearLength, sumBelow, daysBeforeYear}
 use Rattle.calendar.specs.Conversions.{InCentury}
 
@@ -23,15 +20,18 @@ unfolding yearLength
 year-length year w = rw (leap-in-century year w)
 
 -- a year's days end where the next year begins
-pub next-year : (year : ℕ) → 2000 ≤ year → daysBeforeYear (suc year) ≡ daysBeforeYear year + yearLength year
+pub next-year : (year : ℕ) → 2000 ≤ year → daysBeforeYear (year + 1) ≡ daysBeforeYear year + yearLength year
 unfolding daysBeforeYear sumBelow
 next-year year h =
-    let here : suc year - 2000 ≡ suc (year - 2000) = omega arith in
+    let here : year + 1 - 2000 ≡ suc (year - 2000) = omega arith in
     let back : 2000 + (year - 2000) ≡ year = omega arith in
     rw here (ap (λ y. sumBelow (year - 2000) (λ k. yearLength (2000 + k)) + yearLength y) back)
 
 -- the days before the year 2000 + k
-pub years-closed : (k : ℕ) → k ≤ 100 → sumBelow k (λ j. yearLength (2000 + j)) ≡ k * 365 + (k + 3) / 4
+abbrev yearsBefore : ℕ → ℕ
+yearsBefore k = sumBelow k (λ j. yearLength (2000 + j))
+
+years-closed : (k : ℕ) → k ≤ 100 → yearsBefore k ≡ k * 365 + (k + 3) / 4
 unfolding sumBelow
 years-closed zero h = refl
 years-closed (suc k) h = go (divides 4 (2000 + k)) refl (years-closed k (omega arith))
@@ -39,7 +39,8 @@ years-closed (suc k) h = go (divides 4 (2000 + k)) refl (years-closed k (omega a
     length-is : (b : Bool) → divides 4 (2000 + k) ≡ b → yearLength (2000 + k) ≡ cond b 366 365
     length-is b e = rw (year-length (2000 + k) (omega arith), e)
 
-    go : (b : Bool) → divides 4 (2000 + k) ≡ b → sumBelow k (λ j. yearLength (2000 + j)) ≡ k * 365 + (k + 3) / 4 → sumBelow k (λ j. yearLength (2000 + j)) + yearLength (2000 + k) ≡ suc k * 365 + (suc k + 3) / 4
+    go : (b : Bool) → divides 4 (2000 + k) ≡ b → yearsBefore k ≡ k * 365 + (k + 3) / 4
+        → yearsBefore k + yearLength (2000 + k) ≡ suc k * 365 + (suc k + 3) / 4
     go true e ih = omega (arith, length-is true e, eqb-true ((2000 + k) % 4) 0 e)
     go false e ih = omega (arith, length-is false e, eqb-false ((2000 + k) % 4) 0 e)
 
@@ -50,5 +51,5 @@ days-before-year year l h = years-closed (year - 2000) (omega arith)
 -- the days before the year 2000 + k rise with k
 pub years-rise : (k : ℕ) → daysBeforeYear (2000 + k) ≤ daysBeforeYear (2000 + suc k)
 years-rise k =
-    let there : 2000 + suc k ≡ suc (2000 + k) = omega arith in
+    let there : 2000 + suc k ≡ 2000 + k + 1 = omega arith in
     rw there (omega (arith, next-year (2000 + k) (omega arith)))

@@ -1,22 +1,10 @@
 -- What numbers and dates convert to: the days 0 to 36,524, 1 January 2000 to 31 December 2099, and "none" for all else.
 use mathlib.Core.Bool.{Bool, cond, _&&_}
 use Prim.Native.Nat.{ℕ, _≤_}
-use lib.Dec.{leb}
-use Rattle.calendar.specs.declared.Date.{Date}
-use Rattle.calendar.specs.declared.FoundDate.{FoundDate}
-use Rattle.calendar.specs.declared.FoundDay.{FoundDay}
+use Rattle.common.specs.Range.{within}
+pub use Rattle.calendar.specs.Limits.{firstNumber, lastNumber}
+use Rattle.calendar.specs.{declared.Date.Date, declared.FoundDate.FoundDate, declared.FoundDay.FoundDay}
 use Rattle.calendar.specs.Gregorian.{monthLength, dateAt, dayNumber}
-
--- The first and the last day: 1 January 2000 and 31 December 2099.
-abbrev pub firstNumber : ℕ
-firstNumber = 0
-
-abbrev pub lastNumber : ℕ
-lastNumber = 36524
-
--- a number from low to high
-abbrev pub within : ℕ → ℕ → ℕ → Bool
-within low high n = leb low n && leb n high
 
 -- The years 2000 to 2099, their months, and the days of each month.
 unfoldable pub isDate : Date → Bool

@@ -2,8 +2,7 @@
 use mathlib.Core.Bool.{Bool, cond, not, _&&_, _||_}
 use mathlib.Core.List.{List, [], _∷_}
 use Prim.Native.Nat.{ℕ, zero, suc, _+_, _-_, _%_}
-use lib.Dec.{ltb, eqb}
-use lib.ListN.{getD, take}
+use lib.{Dec.ltb, Dec.eqb, ListN.getD, ListN.take}
 use Rattle.lists.specs.Sum.{sum}
 use Rattle.calendar.specs.declared.Date.{Date}
 

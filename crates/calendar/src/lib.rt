@@ -2,7 +2,8 @@
 ghost use mathlib.Core.Path.{_≡_};
 ghost use Prim.Native.Nat.{_+_, _≤_, _<_};
 ghost use Rattle.calendar.specs.Gregorian.{leapYear, yearLength, monthLength, dateAt, daysBeforeYear, daysBeforeMonth};
-ghost use Rattle.calendar.specs.Conversions.{lastNumber, within, isDate, toDate, fromDate, InCentury, IsMonth};
+ghost use Rattle.common.specs.Range.{within};
+ghost use Rattle.calendar.specs.Conversions.{lastNumber, isDate, toDate, fromDate, InCentury, IsMonth};
 
 pub struct Date {
     pub year: u32,
@@ -68,14 +69,6 @@ impl Day {
     }
 }
 
-// Every fourth of the years 2000 to 2099 is a leap year, the first of them too.
-fn is_leap(year: u32) -> bool
-    requires { ⌜ InCentury year ⌝ }
-    ensures { λ r. ⌜ r ≡ leapYear year ⌝ }
-{
-    year % 4 == 0
-}
-
 // The days from 1 January 2000 to the year's first.
 fn days_before_year(year: u32) -> u32
     requires { ⌜ 2000 ≤ year ⌝ }
@@ -84,27 +77,6 @@ fn days_before_year(year: u32) -> u32
 {
     let years = year - 2_000;
     years * 365 + (years + 3) / 4
-}
-
-// The days from the year's first to the month's first; month 13 is the next year's first.
-fn days_before_month(year: u32, month: u32) -> u32
-    requires { ⌜ InCentury year ⌝ }
-    requires { ⌜ (1 ≤ month) × (month ≤ 13) ⌝ }
-    ensures { λ r. ⌜ r ≡ daysBeforeMonth year month ⌝ }
-{
-    let common = DAYS_BEFORE[(month - 1) as usize];
-    if month <= 2 {
-        return common;
-    }
-    if is_leap(year) { common + 1 } else { common }
-}
-
-fn month_length(year: u32, month: u32) -> u32
-    requires { ⌜ InCentury year ⌝ }
-    requires { ⌜ IsMonth month ⌝ }
-    ensures { λ r. ⌜ r ≡ monthLength year month ⌝ }
-{
-    days_before_month(year, month + 1) - days_before_month(year, month)
 }
 
 // A date from 1 January 2000 to 31 December 2099.
@@ -124,6 +96,14 @@ fn within(low: u32, high: u32, n: u32) -> bool
     ensures { λ r. ⌜ r ≡ within low high n ⌝ }
 {
     low <= n && n <= high
+}
+
+fn month_length(year: u32, month: u32) -> u32
+    requires { ⌜ InCentury year ⌝ }
+    requires { ⌜ IsMonth month ⌝ }
+    ensures { λ r. ⌜ r ≡ monthLength year month ⌝ }
+{
+    days_before_month(year, month + 1) - days_before_month(year, month)
 }
 
 // The year that a day falls in: four years have 1,461 days, the first of them 366.
@@ -154,4 +134,25 @@ fn month_of(year: u32, day_of_year: u32) -> u32
         month += 1;
     }
     month
+}
+
+// The days from the year's first to the month's first; month 13 is the next year's first.
+fn days_before_month(year: u32, month: u32) -> u32
+    requires { ⌜ InCentury year ⌝ }
+    requires { ⌜ (1 ≤ month) × (month ≤ 13) ⌝ }
+    ensures { λ r. ⌜ r ≡ daysBeforeMonth year month ⌝ }
+{
+    let common = DAYS_BEFORE[(month - 1) as usize];
+    if month <= 2 {
+        return common;
+    }
+    if is_leap(year) { common + 1 } else { common }
+}
+
+// Every fourth of the years 2000 to 2099 is a leap year, the first of them too.
+fn is_leap(year: u32) -> bool
+    requires { ⌜ InCentury year ⌝ }
+    ensures { λ r. ⌜ r ≡ leapYear year ⌝ }
+{
+    year % 4 == 0
 }

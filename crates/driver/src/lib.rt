@@ -14,55 +14,6 @@ pub struct Run {
     pub sound: bool,
 }
 
-// Writes what is to be printed, and says where that fails.
-fn print(text: &[u8], is_printing: bool) -> bool {
-    if !is_printing {
-        return true;
-    }
-    let is_written = io::write_all(STDOUT_FILENO, text);
-    if !is_written {
-        os::fail(b"standard output");
-    }
-    is_written
-}
-
-// Feeds a block from its start to its end.
-fn feed_block(state: State, block: &[u8], is_printing: bool) -> Run
-    requires { ⌜ Behind state ⌝ }
-    ensures { λ r. ⌜ Ready (r .state) ⌝ }
-    ensures { λ r. ⌜ (r .sound ≡ true → (b : Behind state) → Follows (b .seen ++ now (block .entry)) (r .state)) ⌝ }
-{
-    let mut state = state;
-    let mut out = io::large_buffer();
-    let mut at: usize = 0;
-    while at < block.len() {
-        let fed = feeding::feed(state, &block[at..], &mut out);
-        let written = fed.written;
-        state = fed.state;
-        at += fed.taken;
-        if !print(&out[..written], is_printing) {
-            return Run {
-                state,
-                sound: false,
-            };
-        }
-    }
-    Run { state, sound: true }
-}
-
-// The end of the input.
-fn end_input(state: State, is_printing: bool) -> Run
-    requires { ⌜ Behind state ⌝ }
-    ensures { λ r. ⌜ ((b : Behind state) → AtEnd (b .seen) (r .state)) ⌝ }
-{
-    let mut out = [0u8; 117];
-    let fed = feeding::finish(state, &mut out);
-    let written = fed.written;
-    let sound = print(&out[..written], is_printing);
-    let state = fed.state;
-    Run { state, sound }
-}
-
 // Feeds all of standard input. Where nothing failed, the account is the one that all lines read leave, and no line is left half read.
 // What a failed read leaves half read is not taken for a line.
 pub fn feed_input(is_printing: bool) -> Run
@@ -96,4 +47,53 @@ pub fn feed_input(is_printing: bool) -> Run
         state,
         sound: false,
     }
+}
+
+// The end of the input.
+fn end_input(state: State, is_printing: bool) -> Run
+    requires { ⌜ Behind state ⌝ }
+    ensures { λ r. ⌜ ((b : Behind state) → AtEnd (b .seen) (r .state)) ⌝ }
+{
+    let mut out = [0u8; 117];
+    let fed = feeding::finish(state, &mut out);
+    let written = fed.written;
+    let sound = print(&out[..written], is_printing);
+    let state = fed.state;
+    Run { state, sound }
+}
+
+// Feeds a block from its start to its end.
+fn feed_block(state: State, block: &[u8], is_printing: bool) -> Run
+    requires { ⌜ Behind state ⌝ }
+    ensures { λ r. ⌜ Ready (r .state) ⌝ }
+    ensures { λ r. ⌜ (r .sound ≡ true → (b : Behind state) → Follows (b .seen ++ now (block .entry)) (r .state)) ⌝ }
+{
+    let mut state = state;
+    let mut out = io::large_buffer();
+    let mut at: usize = 0;
+    while at < block.len() {
+        let fed = feeding::feed(state, &block[at..], &mut out);
+        let written = fed.written;
+        state = fed.state;
+        at += fed.taken;
+        if !print(&out[..written], is_printing) {
+            return Run {
+                state,
+                sound: false,
+            };
+        }
+    }
+    Run { state, sound: true }
+}
+
+// Writes what is to be printed, and says where that fails.
+fn print(text: &[u8], is_printing: bool) -> bool {
+    if !is_printing {
+        return true;
+    }
+    let is_written = io::write_all(STDOUT_FILENO, text);
+    if !is_written {
+        os::fail(b"standard output");
+    }
+    is_written
 }

@@ -1,73 +1,56 @@
 -- A line's plan, entered: what comes of it is the outcome of the line. Assumes nothing.
-use mathlib.Core.Path.{_≡_, refl, sym, ap, subst, _∙_}
-use mathlib.Core.Bool.{Bool, true, false, cond}
-use mathlib.Core.List.{List, [], _∷_}
-use Prim.Native.Nat.{ℕ, _+_, _-_, _≤_}
-use native.Mathlib.Omega.{arith}
-use lib.Dec.{eqb}
-use lib.ListN.{length, take, drop, length-append, length-replicate}
-use lib.Seq.{take-append-seam}
-use borrow.Author.Tests.{eq-eqb, ne-eqb, eqb-true, eqb-false}
+use Rattle.common.proofs.Words.{_≡_, refl, sym, ap, subst, _∙_, Bool, true, false, cond, _⊎_, inl, inr, ⊎-elim, List, [], _∷_, ℕ, zero, suc}
+use Rattle.common.proofs.Words.{_+_, _≤_, arith, eqb, length, take, drop, length-append, length-replicate, eq-eqb, ne-eqb}
 use Rattle.lists.specs.Pad.{pad}
 use Rattle.lists.proofs.Pad.{length-take-most}
-use Rattle.meter.specs.declared.Estimates.{Estimates}
-use Rattle.meter.specs.Sharing.{standing}
-use Rattle.ledger.specs.declared.Entered.{Entered}
-use Rattle.ledger.specs.declared.Item.{Item}
-use Rattle.ledger.specs.declared.Queue.{Queue}
-use Rattle.ledger.specs.Limits.{capacity, mostEnd}
-use Rattle.ledger.specs.Posting.{Standing, stored, blank}
-use Rattle.ledger.specs.Entries.{asked, numberOf, interestPosted, EntryBounds, Within}
+use Rattle.meter.specs.{declared.Estimates.Estimates, Sharing.standing}
 use Rattle.ledger.specs.Numbers.{queueIn, ledgerOf, lying, Lies, Fit}
+use Rattle.ledger.specs.{declared.Entered.Entered, declared.Entry.Entry, declared.Item.Item, declared.Queue.Queue}
+use Rattle.ledger.specs.{Limits.capacity, Limits.mostEnd, Posting.Standing, Posting.stored, Posting.blank}
+use Rattle.ledger.specs.Entries.{next, EntryBounds, Within}
+use Rattle.lanes.specs.Lanes.{Worked}
 use Rattle.ledger.proofs.Queues.{part-count, next-asked, next-same, Spread, spread-stands, spread-fits, gathered-is}
-use Rattle.intake.specs.declared.Call.{Call}
-use Rattle.intake.specs.declared.Head.{Head}
-use Rattle.plan.specs.declared.Plan.{Plan}
-use Rattle.plan.specs.declared.Change.{Change}
-use Rattle.plan.specs.declared.Change.the-variants.{Kept, Cleared, Added}
-use Rattle.intake.specs.Limits.{mostMisses}
-use Rattle.closing.specs.Closing.{storedEstimates, filledWith}
-use Rattle.intake.specs.Refusals.{firstRefusal}
+use Rattle.intake.specs.{declared.Call.Call, declared.Head.Head, Limits.mostMisses, Refusals.firstRefusal}
 use Rattle.intake.specs.Heads.{HeadBounds, EstimatesFit}
 use Rattle.plan.specs.Plans.{changed, Room, passedPlan, passedVolumes}
-use Rattle.plan.proofs.Planning.{planned-number, passed-plan, passed-volumes, passed-count}
-use Rattle.plan.proofs.Bounds.{entry-within, change-room}
-use Rattle.account.specs.declared.Account.{Account}
-use Rattle.account.specs.declared.Answer.{Answer}
-use Rattle.account.specs.declared.Outcome.{Outcome}
-use Rattle.account.specs.Calls.{headOf, accountOf}
-use Rattle.account.specs.Outcomes.{acceptance, accepted, declined, outcome}
-use Rattle.account.specs.Whole.{whole}
-use Rattle.account.proofs.Concluding.{outcome-declined}
+use Rattle.plan.specs.{declared.Plan.Plan, declared.Change.Change}
+use Rattle.plan.specs.declared.Change.the-variants.{Kept, Cleared, Added}
+use Rattle.closing.specs.Closing.{storedEstimates}
+use Rattle.plan.proofs.{Planning.passed-count, Bounds.entry-within, Bounds.change-room}
+use Rattle.account.specs.{declared.Account.Account, declared.Outcome.Outcome, Calls.headOf, Calls.Work, Calls.accountOf}
+use Rattle.account.specs.{Outcomes.accepted, Outcomes.declined, Outcomes.outcome, Whole.whole}
 use Rattle.account.proofs.Ready.{head-bounds, count-most, whole-within, misses-most, estimates-within, whole-lying}
-use Rattle.account.proofs.Working.{head-counted}
-use Rattle.account.proofs.Carrying.{made, Goes, goes, outcome-quiet, outcome-asked, outcome-refused}
-use Rattle.frames.specs.declared.Parsed.{Parsed}
-use Rattle.frames.specs.declared.Parsed.the-variants.{Frame, NotAFrame}
+use Rattle.account.proofs.Carrying.{made, goes, outcome-quiet, outcome-asked, outcome-refused}
+use Rattle.account.proofs.{Concluding.outcome-declined, Working.head-counted}
+use Rattle.frames.specs.{declared.Parsed.Parsed, declared.Parsed.the-variants.Frame, declared.Parsed.the-variants.NotAFrame}
 use Rattle.lines.specs.Line.{parsedOutcome}
+use Rattle.feeding.specs.Working.{accountIn, Lain, unasked, Enters, headAfter, answerOf}
 use Rattle.feeding.specs.Reached.{Reached}
-use Rattle.feeding.specs.Working.{accountIn, Lain, PlanOf, unasked, Enters, headAfter, answerOf}
-use Rattle.feeding.proofs.Planning.{answer-refused, answer-accepted}
+use Rattle.feeding.proofs.Planning.{Planned, number-is, passes, answer-refused, answer-accepted}
 use Rattle.feeding.proofs.Reached.{reached-whole, reached-tidy, reached-estimates}
 
 -- What is known of the parts of a reached account.
 module _ {items : List Item} {q : Queue} {h : Head} {estimates : Estimates} (l : Lain items q h estimates) where
-  abbrev pub account : Account
+  abbrev account : Account
   account = accountIn items q h estimates
 
-  pub lain-whole : whole account ≡ true
+  lain-whole : whole account ≡ true
   lain-whole = reached-whole account (l .reached)
 
-  pub lain-tidy : estimates ≡ storedEstimates (standing estimates)
+  lain-tidy : estimates ≡ storedEstimates (standing estimates)
   lain-tidy = reached-estimates account (l .reached)
 
   pub lain-estimates : EstimatesFit h estimates
   lain-estimates =
-      let xs = standing estimates in
       let most = misses-most account lain-whole in
       let count-is = ap (λ (e : Estimates). e .count) lain-tidy in
-      let long = ap (λ (e : Estimates). length (e .periods)) lain-tidy ∙ length-append xs _ ∙ ap (λ n. length xs + n) (length-replicate (mostMisses - length xs) _) in
-      record { count-is = l .count-is; few = most; long = omega (arith, count-is, long, most); within = estimates-within account lain-whole }
+      let long = simp (length-append, length-replicate) at (ap (λ (e : Estimates). length (e .periods)) lain-tidy) in
+      record {
+        count-is = l .count-is;
+        few = most;
+        long = omega (arith, count-is, long, most);
+        within = estimates-within account lain-whole;
+      }
 
   head-is : headOf account ≡ h
   head-is = head-counted h estimates (stored (lying items q)) (l .count-is)
@@ -75,154 +58,149 @@ module _ {items : List Item} {q : Queue} {h : Head} {estimates : Estimates} (l :
   pub lain-bounds : HeadBounds h
   lain-bounds = subst HeadBounds head-is (head-bounds account lain-whole)
 
-  pub lain-within : Within (lying items q)
+  lain-within : Within (lying items q)
   lain-within = whole-lying account (lying items q) refl lain-whole
 
   pub lain-fit : Fit items q
   lain-fit = record { lies = l .lies; within = lain-within }
 
+  pub lain-few : q .count ≤ capacity
+  lain-few = omega (arith, part-count (l .lies), lain-within .count-most)
+
 -- The estimates behind a plan that was entered.
 abbrev pub estimatesAfter : ℕ → Plan → Estimates → Estimates
 estimatesAfter number p estimates = cond (eqb number 0) (changed (p .change) estimates) estimates
 
-pub record Comes (after : List Item) (h : Head) (estimates : Estimates) (p : Plan) (r : Entered) (volumes : List ℕ) (o : Outcome) : Type 0 where
+pub record Comes (after : List Item) (h : Head) (estimates : Estimates) (p : Plan) (r : Entered) (volumes : List ℕ) (o : Outcome)
+    : Type 0 where
   pub account-is : accountIn after (r .queue) (headAfter (r .number) p h) (estimatesAfter (r .number) p estimates) ≡ o .account
   pub answer-is : answerOf r p volumes ≡ o .answer
   pub counted : estimatesAfter (r .number) p estimates .count ≡ headAfter (r .number) p h .standing
   pub lies : Lies after (r .queue)
   pub room : r .queue .front + r .queue .count ≤ mostEnd
 
--- A plan of which nothing is asked leaves all as it lies.
-stands-same : {items after : List Item} {q : Queue} {r : Entered} (n : ℕ) → (r ≡ unasked n q) × (after ≡ items) → lying after (r .queue) ≡ lying items q
-stands-same n e = λ i. lying (e .1 i) (e .0 i .queue)
+zero-or-not : (n : ℕ) → (n ≡ 0) ⊎ (n ≡ 0 → ⊥)
+zero-or-not zero = inl refl
+zero-or-not (suc n) = inr (λ z. absurd (omega (arith, z)))
 
-module _ {items after : List Item} {q : Queue} {h : Head} {estimates : Estimates} {p : Plan} {r : Entered}
-    (l : Lain items q h estimates) (enters : Enters items q p after r) (before volumes : List ℕ) where
-  abbrev a : Account
-  a = accountIn items q h estimates
+-- How the account stands behind an entry, and where its items lie.
+record Left (after : List Item) (q : Queue) (s : Standing) : Type 0 where
+  stands : lying after q ≡ s
+  lies : Lies after q
+  room : q .front + q .count ≤ mostEnd
+  few : q .count ≤ capacity
 
+module _ (after : List Item) (r : Entered) (volumes : List ℕ) {items : List Item} {q : Queue} {h : Head} {estimates : Estimates}
+    (l : Lain items q h estimates) where
   abbrev s : Standing
   s = lying items q
 
-  declined-comes : (o : Outcome) → (r .number ≡ 0 → ⊥) → o ≡ declined a (r .number) → lying after (r .queue) ≡ s → Lies after (r .queue)
-      → r .queue .front + r .queue .count ≤ mostEnd → Comes after h estimates p r volumes o
-  declined-comes o n e same lies room =
+  abbrev a : Account
+  a = accountIn items q h estimates
+
+  -- Where nothing was asked, all stays as it lies.
+  left-same : {n : ℕ} → (r ≡ unasked n q) × (after ≡ items) → Left after (r .queue) s
+  left-same e =
+      subst (λ (x : Entered). Left after (x .queue) s) (sym (e .0))
+      (subst (λ xs. Left xs q s) (sym (e .1)) (record { stands = refl; lies = l .lies; room = l .room; few = lain-few l }))
+
+  left-worked : {e : Entry} {x : Standing} → Worked items q e after r → next e s ≡ x → Left after (r .queue) x
+  left-worked done is = record { stands = done .stands ∙ is; lies = done .lies; room = done .room; few = done .few }
+
+  declined-comes : {p : Plan} {o : Outcome} → (r .number ≡ 0 → ⊥) → o ≡ declined a (r .number) → Left after (r .queue) s
+      → Comes after h estimates p r volumes o
+  declined-comes {p} n e left =
       let off = ne-eqb (r .number) 0 n in
       record {
-        account-is = rw off (ap (λ x. accountOf h estimates (stored x)) same ∙ sym (ap (λ (x : Outcome). x .account) e));
+        account-is = rw off (ap (λ x. accountOf h estimates (stored x)) (left .stands) ∙ sym (ap (λ (x : Outcome). x .account) e));
         answer-is = answer-refused r p volumes n ∙ sym (ap (λ (x : Outcome). x .answer) e);
         counted = rw off (l .count-is);
-        lies = lies;
-        room = room;
+        lies = left .lies;
+        room = left .room;
       }
 
-  -- and where all stays as it lies
-  unasked-comes : (o : Outcome) (n : ℕ) → (n ≡ 0 → ⊥) → (r ≡ unasked n q) × (after ≡ items) → o ≡ declined a n → Comes after h estimates p r volumes o
-  unasked-comes o n some e is =
-      let number-is : r .number ≡ n = ap (λ (x : Entered). x .number) (e .0) in
-      let queue-is : r .queue ≡ q = ap (λ (x : Entered). x .queue) (e .0) in
-      declined-comes o (λ z. some (sym number-is ∙ z)) (is ∙ ap (declined a) (sym number-is)) (stands-same n e)
-      (subst (λ x. Lies x (r .queue)) (sym (e .1)) (subst (Lies items) (sym queue-is) (l .lies)))
-      (rw queue-is (l .room))
+  unasked-comes : {p : Plan} {o : Outcome} {n : ℕ} → (n ≡ 0 → ⊥) → o ≡ declined a n → (r ≡ unasked n q) × (after ≡ items)
+      → Comes after h estimates p r volumes o
+  unasked-comes some is e =
+      let number-is = ap (λ (x : Entered). x .number) (e .0) in
+      declined-comes (λ z. some (sym number-is ∙ z)) (is ∙ ap (declined a) (sym number-is)) (left-same e)
 
-  -- A call that 1 to 11 let pass: its plan is the one that the definition says.
-  module _ (call : Call) (plans : PlanOf h estimates (Frame call) before p volumes) where
-    number-is : p .number ≡ firstRefusal h call
-    number-is = ap (λ (x : Plan). x .number) (plans .0) ∙ planned-number h (standing estimates) call
+  -- A call that 1 to 11 let pass, by the plan that the definition says.
+  module _ (call : Call) (first : firstRefusal h call ≡ 0)
+      (shown : take (passedPlan h (standing estimates) call .count) volumes ≡ passedVolumes h (standing estimates) call) where
+    abbrev plan : Plan
+    plan = passedPlan h (standing estimates) call
 
-    declined-first : (p .number ≡ 0 → ⊥) → Comes after h estimates p r volumes (outcome a call)
-    declined-first some =
-        let is = number-is ∙ ap (λ (x : Head). firstRefusal x call) (sym (head-is l)) in
-        unasked-comes (outcome a call) (p .number) some (enters .declined some) (outcome-declined a call (lain-whole l) (p .number) is some)
+    abbrev Done : Type 0
+    Done = Comes after h estimates plan r volumes (outcome a call)
 
-    module _ (none : p .number ≡ 0) where
-      first : firstRefusal h call ≡ 0
-      first = sym number-is ∙ none
+    fit : EstimatesFit h estimates
+    fit = lain-estimates l
 
-      fit : EstimatesFit h estimates
-      fit = lain-estimates l
+    abbrev work : Standing → ℕ → Work
+    work = made h estimates s call first fit
 
-      passed : p ≡ passedPlan h (standing estimates) call
-      passed = plans .0 ∙ passed-plan h (standing estimates) call first
+    accepted-comes : {x : Standing} {m : ℕ} → outcome a call ≡ accepted (work x m) → r .interest ≡ m → r .number ≡ 0
+        → Left after (r .queue) x → Done
+    accepted-comes {x} is interest z left =
+        let on = eq-eqb (r .number) 0 z in
+        let so = is ∙ ap (λ m. accepted (work x m)) (sym interest) in
+        let g =
+        goes h estimates s call first fit volumes shown after (r .queue) x (r .interest) so (left .stands) (left .lies) (left .few)
+        in
+        record {
+          account-is = rw on (g .account-is);
+          answer-is = answer-accepted r plan volumes z ∙ g .answer-is;
+          counted = rw on (g .counted);
+          lies = left .lies;
+          room = left .room;
+        }
 
-      shown : take (passedPlan h (standing estimates) call .count) volumes ≡ passedVolumes h (standing estimates) call
-      shown =
-          let final = passedVolumes h (standing estimates) call in
-          (λ i. take (passed-count h (standing estimates) call i) ((plans .1 ∙ ap (λ v. filledWith v before) (passed-volumes h (standing estimates) call first)) i)) ∙
-          take-append-seam final (drop (length final) before)
+    quiet-comes : plan .asks ≡ false → (r ≡ unasked 0 q) × (after ≡ items) → Done
+    quiet-comes asks e =
+        accepted-comes (outcome-quiet h estimates s call first fit (lain-whole l) (lain-within l) asks)
+        (ap (λ (x : Entered). x .interest) (e .0)) (ap (λ (x : Entered). x .number) (e .0)) (left-same e)
 
-      asks-is : p .asks ≡ passedPlan h (standing estimates) call .asks
-      asks-is = ap (λ (x : Plan). x .asks) passed
+    asked-comes : plan .asks ≡ true → Worked items q (plan .entry) after r → Done
+    asked-comes asks done =
+        ⊎-elim
+        (λ none. let z = sym (done .number-is) ∙ none in
+        accepted-comes (outcome-asked h estimates s call first fit (lain-whole l) (lain-within l) asks z)
+        (done .interest-is none) none (left-worked done (next-asked (plan .entry) s z)))
+        (λ some.
+        declined-comes some
+        (outcome-refused h estimates s call first fit (lain-whole l) (lain-within l) asks (r .number) (done .number-is) some)
+        (left-worked done (next-same (plan .entry) s (λ z. some (done .number-is ∙ z)))))
+        (zero-or-not (r .number))
 
-      accepted-comes : r .number ≡ 0 → Lies after (r .queue) → r .queue .front + r .queue .count ≤ mostEnd
-          → Goes h estimates s call first fit after (r .queue) (r .interest) volumes → Comes after h estimates p r volumes (outcome a call)
-      accepted-comes z lies room g =
-          let on = eq-eqb (r .number) 0 z in
-          let turn : Plan → Account = λ x. accountIn after (r .queue) (x .head) (changed (x .change) estimates) in
-          let told : Plan → Answer = λ x. acceptance (x .estimated) (take (x .count) volumes) (x .net) (r .interest) (r .queue .owed) (r .queue .credit) in
-          record {
-            account-is = rw on (ap turn passed ∙ g .account-is);
-            answer-is = answer-accepted r p volumes z ∙ ap told passed ∙ g .answer-is;
-            counted = rw on (ap (λ (x : Plan). changed (x .change) estimates .count) passed ∙ g .counted ∙ sym (ap (λ (x : Plan). x .head .standing) passed));
-            lies = lies;
-            room = room;
-          }
-
-      quiet-comes : p .asks ≡ false → Comes after h estimates p r volumes (outcome a call)
-      quiet-comes asks =
-          let e = enters .quiet none asks in
-          let queue-is : r .queue ≡ q = ap (λ (x : Entered). x .queue) (e .0) in
-          let is = outcome-quiet h estimates s call first fit (lain-whole l) (lain-within l) (sym asks-is ∙ asks) in
-          let few : q .count ≤ capacity = omega (arith, part-count (l .lies), lain-within l .count-most) in
-          let g = goes h estimates s call first fit volumes shown items q s 0 is refl (l .lies) few in
-          accepted-comes (ap (λ (x : Entered). x .number) (e .0))
-          (subst (λ x. Lies x (r .queue)) (sym (e .1)) (subst (Lies items) (sym queue-is) (l .lies)))
-          (rw queue-is (l .room))
-          (subst (λ (x : Entered). Goes h estimates s call first fit after (x .queue) (x .interest) volumes) (sym (e .0))
-          (subst (λ x. Goes h estimates s call first fit x q 0 volumes) (sym (e .1)) g))
-
-      asked-comes : p .asks ≡ true → (b : Bool) → eqb (r .number) 0 ≡ b → Comes after h estimates p r volumes (outcome a call)
-      asked-comes asks true e =
-          let done = enters .asked none asks in
-          let zero = eqb-true (r .number) 0 e in
-          let entry = passedPlan h (standing estimates) call .entry in
-          let z : numberOf (asked entry s) ≡ 0 = ap (λ (x : Plan). numberOf (asked (x .entry) s)) (sym passed) ∙ sym (done .number-is) ∙ zero in
-          let interest = done .interest-is zero ∙ ap (λ (x : Plan). interestPosted (x .entry) s) passed in
-          let is =
-          outcome-asked h estimates s call first fit (lain-whole l) (lain-within l) (sym asks-is ∙ asks) z ∙
-          ap (λ m. accepted (made h estimates s call first fit (asked entry s) m)) (sym interest)
-          in
-          let stands = done .stands ∙ next-asked (p .entry) s (sym (done .number-is) ∙ zero) ∙ ap (λ (x : Plan). asked (x .entry) s) passed in
-          accepted-comes zero (done .lies) (done .room)
-          (goes h estimates s call first fit volumes shown after (r .queue) (asked entry s) (r .interest) is stands (done .lies) (done .few))
-      asked-comes asks false e =
-          let done = enters .asked none asks in
-          let some = eqb-false (r .number) 0 e in
-          let is = outcome-refused h estimates s call first fit (lain-whole l) (lain-within l) (sym asks-is ∙ asks) (r .number) (done .number-is ∙ ap (λ (x : Plan). numberOf (asked (x .entry) s)) passed) some in
-          declined-comes (outcome a call) some is (done .stands ∙ next-same (p .entry) s (λ z. some (done .number-is ∙ z))) (done .lies) (done .room)
-
-    call-comes : (b : Bool) → eqb (p .number) 0 ≡ b → (c : Bool) → p .asks ≡ c → Comes after h estimates p r volumes (outcome a call)
-    call-comes true e true f = asked-comes (eqb-true (p .number) 0 e) f (eqb (r .number) 0) refl
-    call-comes true e false f = quiet-comes (eqb-true (p .number) 0 e) f
-    call-comes false e c f = declined-first (eqb-false (p .number) 0 e)
+    passed-comes : plan .number ≡ 0 → Enters items q plan after r → Done
+    passed-comes none enters = go (plan .asks) refl
+      where
+        go : (b : Bool) → plan .asks ≡ b → Done
+        go true asks = asked-comes asks (enters .asked none asks)
+        go false asks = quiet-comes asks (enters .quiet none asks)
 
   -- What comes of a line.
-  pub comes : (line : Parsed) → PlanOf h estimates line before p volumes → Comes after h estimates p r volumes (parsedOutcome a line)
-  comes (Frame call) plans = call-comes call plans (eqb (p .number) 0) refl (p .asks) refl
-  comes NotAFrame e =
-      let number-40 : p .number ≡ 40 = ap (λ (x : Plan). x .number) e in
+  pub comes : {p : Plan} {line : Parsed} {before : List ℕ} → Enters items q p after r → Planned h estimates line before p volumes
+      → Comes after h estimates p r volumes (parsedOutcome a line)
+  comes {p = p} {line = Frame call} enters plans =
+      ⊎-elim
+      (λ none. let passed = passes plans none in
+      subst (λ (x : Plan). x .number ≡ 0 → Enters items q x after r → Comes after h estimates x r volumes (outcome a call))
+      (sym (passed .plan-is)) (passed-comes call (passed .first) (passed .shown)) none enters)
+      (λ some. let is = number-is plans ∙ ap (λ (x : Head). firstRefusal x call) (sym (head-is l)) in
+      unasked-comes some (outcome-declined a call (lain-whole l) (p .number) is some) (enters .declined some))
+      (zero-or-not (p .number))
+  comes {p = p} {line = NotAFrame} enters plans =
+      let number-40 : p .number ≡ 40 = ap (λ (x : Plan). x .number) (plans .is) in
       let some : p .number ≡ 0 → ⊥ = λ z. absurd (omega (arith, number-40, z)) in
-      unasked-comes (declined a 40) (p .number) some (enters .declined some) (ap (declined a) (sym number-40))
+      unasked-comes some (ap (declined a) (sym number-40)) (enters .declined some)
 
 -- A plan that is entered was not refused.
-pub entered-planned : {items after : List Item} {q : Queue} {p : Plan} {r : Entered} → Enters items q p after r → r .number ≡ 0 → p .number ≡ 0
-entered-planned {p = p} {r} enters z = go (eqb (p .number) 0) refl
-  where
-    go : (b : Bool) → eqb (p .number) 0 ≡ b → p .number ≡ 0
-    go true e = eqb-true (p .number) 0 e
-    go false e =
-        let some = eqb-false (p .number) 0 e in
-        absurd (some (sym (ap (λ (x : Entered). x .number) (enters .declined some .0)) ∙ z))
+pub entered-planned : {items after : List Item} {q : Queue} {p : Plan} {r : Entered} → Enters items q p after r → r .number ≡ 0
+    → p .number ≡ 0
+entered-planned {p = p} enters z =
+    ⊎-elim (λ none. none) (λ some. sym (ap (λ (x : Entered). x .number) (enters .declined some .0)) ∙ z) (zero-or-not (p .number))
 
 -- What a plan says of a line, where it is not refused.
 pub record Said (h : Head) (p : Plan) (volumes : List ℕ) : Type 0 where
@@ -230,51 +208,48 @@ pub record Said (h : Head) (p : Plan) (volumes : List ℕ) : Type 0 where
   pub room : Room (p .change) (h .standing)
   pub count-is : length (take (p .count) volumes) ≡ p .count
 
-pub said : {items : List Item} {q : Queue} {h : Head} {estimates : Estimates} → Lain items q h estimates → (p : Plan) (before volumes : List ℕ) (line : Parsed)
-    → PlanOf h estimates line before p volumes → p .number ≡ 0 → Said h p volumes
-said {h = h} {estimates} l p before volumes (Frame call) plans none =
+pub said : {items : List Item} {q : Queue} {h : Head} {estimates : Estimates} {line : Parsed} {before volumes : List ℕ} {p : Plan}
+    → Lain items q h estimates → Planned h estimates line before p volumes → p .number ≡ 0 → Said h p volumes
+said {h = h} {estimates} {line = Frame call} l plans none =
     let stand = standing estimates in
     let fit = lain-estimates l in
-    let first = sym (planned-number h stand call) ∙ sym (ap (λ (x : Plan). x .number) (plans .0)) ∙ none in
-    let passed = plans .0 ∙ passed-plan h stand call first in
+    let passed = passes plans none in
     let six : length stand ≤ mostMisses = omega (arith, length-take-most (estimates .count) (estimates .periods), fit .few) in
-    let final = passedVolumes h stand call in
-    let count-is = ap (λ (x : Plan). x .count) passed ∙ passed-count h stand call in
-    let volumes-are = plans .1 ∙ ap (λ v. filledWith v before) (passed-volumes h stand call first) in
-    record {
-      bounds = subst (λ (x : Plan). EntryBounds (x .entry)) (sym passed) (entry-within h (lain-bounds l) stand six (fit .within) call first);
-      room = subst (λ (x : Plan). Room (x .change) (h .standing)) (sym passed) (change-room h stand call first);
-      count-is = (λ i. length (take (count-is i) (volumes-are i))) ∙ ap length (take-append-seam final (drop (length final) before)) ∙ sym count-is;
-    }
-said l p before volumes NotAFrame e none = absurd (omega (arith, ap (λ (x : Plan). x .number) e, none))
+    rw (passed .plan-is) (record {
+      bounds = entry-within h (lain-bounds l) stand six (fit .within) call (passed .first);
+      room = change-room h stand call (passed .first);
+      count-is = ap length (passed .shown) ∙ sym (passed-count h stand call);
+    })
+said {line = NotAFrame} l plans none = absurd (omega (arith, ap (λ (x : Plan). x .number) (plans .is), none))
 
--- Estimates that are as many as before are the same.
+-- The estimates behind a line. Where as many stand as before, they are the same; else the call was accepted.
 module _ {items after : List Item} {q : Queue} {h : Head} {estimates : Estimates} {p : Plan} {r : Entered} {volumes : List ℕ} {o : Outcome}
-    (l : Lain items q h estimates) (c : Comes after h estimates p r volumes o) where
-  none-blank : estimates .count ≡ 0 → storedEstimates [] ≡ estimates
-  none-blank z = sym (lain-tidy l ∙ ap storedEstimates (ap (λ n. take n (estimates .periods)) z))
-
+    (l : Lain items q h estimates) (c : Comes after h estimates p r volumes o)
+    {head′ : Head} (head-is : head′ ≡ headAfter (r .number) p h) where
   same-changed : (change : Change) → changed change estimates .count ≡ estimates .count → changed change estimates ≡ estimates
   same-changed Kept e = refl
-  same-changed Cleared e = none-blank (sym e)
+  same-changed Cleared e = sym (lain-tidy l ∙ ap storedEstimates (ap (λ n. take n (estimates .periods)) (sym e)))
   same-changed (Added estimate) e =
       let count-is = ap (λ (x : Estimates). x .count) (lain-tidy l) in
-      let more = length-append (standing estimates) (estimate ∷ []) in
-      absurd (omega (arith, e, count-is, more))
+      absurd (omega (arith, e, count-is, length-append (standing estimates) (estimate ∷ [])))
 
-  pub estimates-kept : headAfter (r .number) p h .standing ≡ estimates .count → estimatesAfter (r .number) p estimates ≡ estimates
-  estimates-kept e = go (eqb (r .number) 0) (c .counted ∙ e)
+  pub estimates-kept : head′ .standing ≡ estimates .count → estimates ≡ estimatesAfter (r .number) p estimates
+  estimates-kept e = sym (go (eqb (r .number) 0) (c .counted ∙ sym (ap (λ (x : Head). x .standing) head-is) ∙ e))
     where
-      go : (b : Bool) → cond b (changed (p .change) estimates) estimates .count ≡ estimates .count → cond b (changed (p .change) estimates) estimates ≡ estimates
+      go : (b : Bool) → cond b (changed (p .change) estimates) estimates .count ≡ estimates .count
+          → cond b (changed (p .change) estimates) estimates ≡ estimates
       go true f = same-changed (p .change) f
       go false f = refl
 
-  pub estimates-change : (headAfter (r .number) p h .standing ≡ estimates .count → ⊥) → r .number ≡ 0
-  estimates-change n = go (eqb (r .number) 0) refl
-    where
-      go : (b : Bool) → eqb (r .number) 0 ≡ b → r .number ≡ 0
-      go true e = eqb-true (r .number) 0 e
-      go false e = absurd (n (ap (λ b. cond b (p .head) h .standing) e ∙ sym (l .count-is)))
+  pub change-accepted : (head′ .standing ≡ estimates .count → ⊥) → r .number ≡ 0
+  change-accepted n =
+      ⊎-elim (λ none. none)
+      (λ some. absurd (n (ap (λ (x : Head). x .standing) head-is ∙ rw (ne-eqb (r .number) 0 some) (sym (l .count-is)))))
+      (zero-or-not (r .number))
+
+  pub estimates-changed : (head′ .standing ≡ estimates .count → ⊥) → {estimates′ : Estimates} → estimates′ ≡ changed (p .change) estimates
+      → estimates′ ≡ estimatesAfter (r .number) p estimates
+  estimates-changed n is = rw (eq-eqb (r .number) 0 (change-accepted n)) is
 
 -- The parts of the account behind a line.
 module _ {after : List Item} {h : Head} {estimates : Estimates} {p : Plan} {r : Entered} {volumes : List ℕ} {o : Outcome}
@@ -293,28 +268,29 @@ module _ {after : List Item} {h : Head} {estimates : Estimates} {p : Plan} {r : 
       }
 
 -- The parts of an account whose items were spread.
-module _ (a : Account) (reached : Reached a) (items : List Item) (w : Spread (a .ledger) items) where
+module _ {a : Account} (reached : Reached a) {items : List Item} (w : Spread (a .ledger) items)
+    {h : Head} (head-is : h ≡ headOf a) {q : Queue} (queue-is : q ≡ queueIn (a .ledger)) where
   abbrev is-whole : whole a ≡ true
   is-whole = reached-whole a reached
 
-  pub account-spread : accountIn items (queueIn (a .ledger)) (headOf a) (a .estimates) ≡ a
+  pub account-spread : accountIn items q h (a .estimates) ≡ a
   account-spread =
-      ap (λ x. accountOf (headOf a) (a .estimates) (stored x)) (spread-stands w) ∙ ap (accountOf (headOf a) (a .estimates)) (sym (reached-tidy a reached))
+      (λ i. accountIn items (queue-is i) (head-is i) (a .estimates)) ∙
+      ap (λ x. accountOf (headOf a) (a .estimates) (stored x)) (spread-stands w) ∙
+      ap (accountOf (headOf a) (a .estimates)) (sym (reached-tidy a reached))
 
-  pub lain-spread : Lain items (queueIn (a .ledger)) (headOf a) (a .estimates)
+  pub lain-spread : Lain items q h (a .estimates)
   lain-spread =
       record {
-        lies = spread-fits w (whole-within a is-whole) .lies;
-        room = omega (arith, count-most a is-whole);
-        count-is = refl;
+        lies = rw queue-is (spread-fits w (whole-within a is-whole) .lies);
+        room = rw queue-is (omega (arith, count-most a is-whole));
+        count-is = sym (ap (λ (x : Head). x .standing) head-is);
         reached = rw account-spread reached;
       }
 
 -- And of one whose items are gathered.
-module _ {items : List Item} {q : Queue} {h : Head} {estimates : Estimates} (l : Lain items q h estimates) where
-  pub lain-few : q .count ≤ capacity
-  lain-few = omega (arith, part-count (l .lies), lain-within l .count-most)
-
-  pub account-gathered : (gathered : List Item) → gathered ≡ pad capacity blank (take (q .count) (drop (q .front) items))
-      → accountOf h estimates (ledgerOf q gathered) ≡ accountIn items q h estimates
-  account-gathered gathered e = ap (λ xs. accountOf h estimates (ledgerOf q xs)) e ∙ ap (accountOf h estimates) (gathered-is (l .lies) lain-few)
+pub account-gathered : {items gathered : List Item} {q : Queue} {h : Head} {estimates : Estimates} → Lain items q h estimates
+    → gathered ≡ pad capacity blank (take (q .count) (drop (q .front) items))
+    → accountOf h estimates (ledgerOf q gathered) ≡ accountIn items q h estimates
+account-gathered {q = q} {h} {estimates} l e =
+    ap (λ xs. accountOf h estimates (ledgerOf q xs)) e ∙ ap (accountOf h estimates) (gathered-is (l .lies) (lain-few l))

@@ -2,3 +2,4 @@
 pub mod Reached
 pub mod Planning
 pub mod Entering
+pub mod Running

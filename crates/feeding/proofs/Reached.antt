@@ -1,18 +1,12 @@
 -- An account that calls lead to is whole, and goes on so: number 41 has nothing to find. Assumes nothing.
-use mathlib.Core.Path.{_≡_, refl, sym, ap, _∙_}
-use mathlib.Core.Bool.{true}
-use mathlib.Core.List.{List, [], _∷_, _++_}
+use Rattle.common.proofs.Words.{_≡_, refl, sym, ap, _∙_, true, List, [], _∷_, _++_}
 use Rattle.ledger.specs.Posting.{Tidy}
-use Rattle.account.specs.declared.Account.{Account}
+use Rattle.account.specs.{declared.Account.Account, Calls.newAccount, Calls.standingEstimates, Outcomes.outcome, Whole.whole}
 use Rattle.intake.specs.declared.Call.{Call}
 use Rattle.closing.specs.Closing.{storedEstimates}
-use Rattle.account.specs.Calls.{newAccount, standingEstimates}
-use Rattle.account.specs.Outcomes.{outcome}
-use Rattle.account.specs.Whole.{whole}
 use Rattle.audit.specs.Claim.{Run, start, step, run}
 use Rattle.audit.proofs.Theorem.{reconciled, tidy, tidy-estimates}
-use Rattle.frames.specs.declared.Parsed.{Parsed}
-use Rattle.frames.specs.declared.Parsed.the-variants.{Frame, NotAFrame}
+use Rattle.frames.specs.{declared.Parsed.Parsed, declared.Parsed.the-variants.Frame, declared.Parsed.the-variants.NotAFrame}
 use Rattle.lines.specs.Line.{parsedOutcome}
 use Rattle.feeding.specs.Reached.{Reached}
 
@@ -38,7 +32,8 @@ reached-call : (a : Account) (call : Call) → Reached a → Reached (outcome a 
 reached-call a call r =
     record {
       calls = r .calls ++ (call ∷ []);
-      account-is = ap (λ x. outcome x call .account) (r .account-is) ∙ sym (ap (λ (q : Run). q .account) (run-behind start (r .calls) call));
+      account-is =
+          ap (λ x. outcome x call .account) (r .account-is) ∙ sym (ap (λ (q : Run). q .account) (run-behind start (r .calls) call));
     }
 
 pub reached-parsed : (a : Account) (p : Parsed) → Reached a → Reached (parsedOutcome a p .account)

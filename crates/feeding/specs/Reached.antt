@@ -1,11 +1,9 @@
 -- States that feeding leads to.
-use mathlib.Core.Path.{_≡_}
-use mathlib.Core.List.{List}
+use mathlib.Core.{Path._≡_, List.List}
 use Rattle.account.specs.declared.Account.{Account}
 use Rattle.intake.specs.declared.Call.{Call}
 use Rattle.audit.specs.Claim.{start, run}
-use Rattle.lines.specs.declared.State.{State}
-use Rattle.lines.specs.Feeding.{blankLine}
+use Rattle.lines.specs.{declared.State.State, Feeding.blankLine}
 
 -- An account that calls from a new one lead to.
 pub record Reached (a : Account) : Type 0 where

@@ -1,37 +1,21 @@
 -- An account worked in parts: its head, its estimates, its open items as they lie in lanes, and the numbers of their queue.
-use mathlib.Core.Path.{_≡_}
-use mathlib.Core.Bool.{true, false, cond}
-use mathlib.Core.List.{List}
+use mathlib.Core.{Path._≡_, Bool.true, Bool.false, Bool.cond, List.List}
 use Prim.Native.Nat.{ℕ, _+_, _≤_}
-use lib.Dec.{eqb}
-use lib.ListN.{length, take}
+use lib.{Dec.eqb, ListN.length, ListN.take}
 use Rattle.meter.specs.declared.Estimates.{Estimates}
-use Rattle.meter.specs.Sharing as Sharing
-use Rattle.ledger.specs.declared.Item.{Item}
-use Rattle.ledger.specs.Limits.{mostEnd}
-use Rattle.ledger.specs.Posting.{stored}
-use Rattle.ledger.specs.declared.Queue.{Queue}
-use Rattle.ledger.specs.Numbers.{ledgerOf, lying, Lies}
-use Rattle.ledger.specs.declared.Entered.{Entered}
-use Rattle.lanes.specs.Lanes.{Worked}
-use Rattle.account.specs.Calls.{accountOf}
-use Rattle.account.specs.declared.Account.{Account}
-use Rattle.account.specs.declared.Answer.{Answer}
-use Rattle.intake.specs.declared.Head.{Head}
-use Rattle.plan.specs.declared.Plan.{Plan}
+use Rattle.ledger.specs.{declared.Item.Item, Limits.mostEnd, Posting.stored, declared.Queue.Queue}
+use Rattle.ledger.specs.{Numbers.ledgerOf, Numbers.lying, Numbers.Lies, declared.Entered.Entered}
+use Rattle.lanes.specs.Lanes.{rows, Long, Worked}
+use Rattle.account.specs.{Calls.accountOf, declared.Account.Account, declared.Answer.Answer, Outcomes.acceptance, Outcomes.declining}
+use Rattle.intake.specs.{declared.Head.Head, Heads.HeadBounds}
 use Rattle.plan.specs.Plans.{quietPlan, planned, plannedVolumes, reads}
+use Rattle.plan.specs.declared.Plan.{Plan}
 use Rattle.closing.specs.Closing.{filledWith}
-use Rattle.frames.specs.declared.Fields.{Fields}
-use Rattle.frames.specs.Numbers.{callOf, parsedBy}
-use Rattle.account.specs.Outcomes.{acceptance, declining}
-use Rattle.frames.specs.declared.Parsed.{Parsed}
-use Rattle.frames.specs.declared.Parsed.the-variants.{Frame, NotAFrame}
-use Rattle.feeding.specs.declared.Went.{Went}
-use Rattle.lines.specs.declared.State.{State}
-use Rattle.lines.specs.declared.Fed.{Fed}
-use Rattle.frames.specs.Digits.{written}
-use Rattle.lines.specs.Feeding.{blankLine, feeding, fedOf}
-use Rattle.feeding.specs.Reached.{Reached}
+use Rattle.frames.specs.{declared.Fields.Fields, Numbers.SmallIn, Numbers.callOf, Numbers.parsedBy, declared.Parsed.Parsed}
+use Rattle.frames.specs.{declared.Parsed.the-variants.Frame, declared.Parsed.the-variants.NotAFrame, Digits.written}
+use Rattle.feeding.specs.{declared.Went.Went, Reached.Reached}
+use Rattle.lines.specs.{declared.State.State, declared.Fed.Fed, Feeding.keptMost, Feeding.blankLine, Feeding.feeding, Feeding.fedOf}
+use Rattle.meter.specs.Sharing as Sharing
 
 abbrev pub accountIn : List Item → Queue → Head → Estimates → Account
 accountIn items q h estimates = accountOf h estimates (stored (lying items q))
@@ -43,6 +27,13 @@ pub record Lain (items : List Item) (q : Queue) (h : Head) (estimates : Estimate
   pub count-is : estimates .count ≡ h .standing
   pub reached : Reached (accountIn items q h estimates)
 
+-- Lines can be fed to the parts of an account, whose items lie in the lanes, and to a line that may have begun.
+pub record Feedable (us bs ls : List ℕ) (q : Queue) (h : Head) (estimates : Estimates) (begun : ℕ) (line : List ℕ) : Type 0 where
+  pub long : Long us bs ls
+  pub lain : Lain (rows us bs ls) q h estimates
+  pub line-long : length line ≡ keptMost
+  pub clear : begun ≡ 0 → line ≡ blankLine
+
 -- A line that looks at the estimates: a reading, where some stand; and one that does not.
 pub record LooksBack (fields : Fields) : Type 0 where
   pub frame : parsedBy fields ≡ Frame (callOf fields)
@@ -50,6 +41,13 @@ pub record LooksBack (fields : Fields) : Type 0 where
 
 abbrev pub AloneIn : ℕ → Fields → Type 0
 AloneIn standing fields = (fields .width ≡ 0 → ⊥) → reads (callOf fields) ≡ true → standing ≡ 0
+
+-- A line can be planned on the head alone, its volumes stored in seven places.
+pub record LinePlannable (h : Head) (fields : Fields) (volumes : List ℕ) : Type 0 where
+  pub bounds : HeadBounds h
+  pub small : SmallIn fields
+  pub alone : AloneIn (h .standing) fields
+  pub seven : length volumes ≡ 7
 
 -- A line planned: 40 where it is no frame.
 abbrev pub PlanOf : Head → Estimates → Parsed → List ℕ → Plan → List ℕ → Type 0

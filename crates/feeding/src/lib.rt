@@ -4,18 +4,16 @@ ghost use mathlib.Core.Bool.{true, false};
 ghost use Prim.Native.Nat.{_+_, _≤_, _<_};
 ghost use lib.ListN.{length, take};
 ghost use Rattle.meter.specs.declared.Estimates.{Estimates};
-ghost use Rattle.ledger.specs.Limits.{mostEnd};
 ghost use Rattle.ledger.specs.Entries.{EntryBounds};
-ghost use Rattle.ledger.specs.Numbers.{Fit};
-ghost use Rattle.lanes.specs.Lanes.{rows, Long};
-ghost use Rattle.intake.specs.Heads.{HeadBounds};
+ghost use Rattle.lanes.specs.Lanes.{rows, Long, Workable};
 ghost use Rattle.frames.specs.Digits.{PairTable, written};
 ghost use Rattle.frames.specs.Numbers.{parsedBy, SmallIn};
 ghost use Rattle.answers.specs.Answers.{answerLine, longestAnswer};
 ghost use Rattle.feeding.specs.Reached.{Ready};
-ghost use Rattle.lines.specs.Feeding.{keptMost, blankLine, feeding, finishing, fedOf};
+ghost use Rattle.lines.specs.Feeding.{feeding, finishing, fedOf};
 ghost use Rattle.lines.specs.Going.{state};
-ghost use Rattle.feeding.specs.Working.{accountIn, Lain, LooksBack, AloneIn, PlanOf, unasked, Enters, headAfter, answerOf, Runs, handedBack};
+ghost use Rattle.feeding.specs.Working.{accountIn, Feedable, LooksBack, AloneIn, LinePlannable, PlanOf, unasked, Enters};
+ghost use Rattle.feeding.specs.Working.{headAfter, answerOf, Runs, handedBack};
 use frames::Fields;
 use intake::Head;
 use ledger::Entered;
@@ -105,11 +103,11 @@ fn feed_lines(
     amount: &mut [u64; LANE_PLACES],
     label: &mut [u64; LANE_PLACES],
 ) -> Went
-    requires { ⌜ Long (now unpaid) (now amount) (now label) ⌝ }
-    requires { ⌜ Lain (rows (now unpaid) (now amount) (now label)) queue head estimates ⌝ }
-    requires { ⌜ length (now line) ≡ keptMost ⌝ }
-    requires { ⌜ (begun ≡ 0 → now line ≡ blankLine) ⌝ }
-    ensures { λ r. ⌜ Runs (now (input .entry)) (now (out .entry)) (state (accountIn (rows (now (unpaid .entry)) (now (amount .entry)) (now (label .entry))) queue head estimates) begun (now (line .entry))) (rows (now (unpaid .exit)) (now (amount .exit)) (now (label .exit))) (now (line .exit)) (now (out .exit)) r ⌝ }
+    requires { ⌜ Feedable (now unpaid) (now amount) (now label) queue head estimates begun (now line) ⌝ }
+    ensures { λ r. ⌜
+        Runs (now (input .entry)) (now (out .entry))
+        (state (accountIn (rows (now (unpaid .entry)) (now (amount .entry)) (now (label .entry))) queue head estimates) begun (now (line .entry)))
+        (rows (now (unpaid .exit)) (now (amount .exit)) (now (label .exit))) (now (line .exit)) (now (out .exit)) r ⌝ }
     ensures { λ _. ⌜ Long (now (unpaid .exit)) (now (amount .exit)) (now (label .exit)) ⌝ }
 {
     let values = frames::value_table();
@@ -170,11 +168,10 @@ fn looks_back(standing: usize, fields: Fields) -> bool
 
 // A line planned on the head alone. 40: it is no frame.
 fn plan_line(head: Head, fields: Fields, volumes: &mut [u32; 7]) -> Plan
-    requires { ⌜ HeadBounds head ⌝ }
-    requires { ⌜ SmallIn fields ⌝ }
-    requires { ⌜ AloneIn (head .standing) fields ⌝ }
-    requires { ⌜ length (now volumes) ≡ 7 ⌝ }
-    ensures { λ r. ⌜ ((estimates : Estimates) → estimates .count ≡ head .standing → PlanOf head estimates (parsedBy fields) (now (volumes .entry)) r (now (volumes .exit))) ⌝ }
+    requires { ⌜ LinePlannable head fields (now volumes) ⌝ }
+    ensures { λ r. ⌜
+        ((estimates : Estimates) → estimates .count ≡ head .standing
+        → PlanOf head estimates (parsedBy fields) (now (volumes .entry)) r (now (volumes .exit))) ⌝ }
 {
     if fields.width == 0 {
         return plan::plans::quiet(40, head);
@@ -190,11 +187,11 @@ fn enter_plan(
     queue: Queue,
     plan: Plan,
 ) -> Entered
-    requires { ⌜ Long (now unpaid) (now amount) (now label) ⌝ }
-    requires { ⌜ Fit (rows (now unpaid) (now amount) (now label)) queue ⌝ }
-    requires { ⌜ queue .front + queue .count ≤ mostEnd ⌝ }
+    requires { ⌜ Workable (now unpaid) (now amount) (now label) queue ⌝ }
     requires { ⌜ (plan .number ≡ 0 → EntryBounds (plan .entry)) ⌝ }
-    ensures { λ r. ⌜ Enters (rows (now (unpaid .entry)) (now (amount .entry)) (now (label .entry))) queue plan (rows (now (unpaid .exit)) (now (amount .exit)) (now (label .exit))) r ⌝ }
+    ensures { λ r. ⌜
+        Enters (rows (now (unpaid .entry)) (now (amount .entry)) (now (label .entry))) queue plan
+        (rows (now (unpaid .exit)) (now (amount .exit)) (now (label .exit))) r ⌝ }
     ensures { λ _. ⌜ Long (now (unpaid .exit)) (now (amount .exit)) (now (label .exit)) ⌝ }
 {
     if plan.number != 0 {

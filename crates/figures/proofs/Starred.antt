@@ -1,10 +1,9 @@
 -- The starred figures hold, each by computing the definitions. Assumes nothing.
-use mathlib.Core.Path.{refl}
+use Rattle.common.proofs.Words.{refl}
 use Rattle.tariff.specs.Fuel.{averagePrice, priceChange, steps, adjustedUnit}
-use Rattle.tariff.specs.Bands.{bandOf}
 use Rattle.tariff.specs.Price.{fullMonth, basicCharge, bandVolume, priceIn, priceOf}
-use Rattle.meter.specs.Dial.{span, advance}
-use Rattle.meter.specs.Sharing.{sharedPool, finalVolumes}
+use Rattle.tariff.specs.Bands.{bandOf}
+use Rattle.meter.specs.{Dial.span, Dial.advance, Sharing.sharedPool, Sharing.finalVolumes}
 use Rattle.ledger.specs.Interest.{body, interestOn}
 use Rattle.closing.specs.Closing.{netOf}
 use Rattle.figures.specs.Starred.{Starred}

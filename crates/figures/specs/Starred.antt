@@ -1,18 +1,10 @@
 -- The starred figures of "Worked by hand", as one conjunction about the definitions.
-use mathlib.Core.Path.{_≡_}
-use mathlib.Core.Bool.{false}
-use mathlib.Core.List.{[], _∷_}
+use mathlib.Core.{Path._≡_, Bool.false, List.[], List._∷_}
 use Prim.Native.Nat.{ℕ}
 use lib.IntN.{negsuc}
-use Rattle.tariff.specs.declared.Fuel.{Fuel}
-use Rattle.tariff.specs.Fuel.{averagePrice, steps, adjustedUnit}
-use Rattle.tariff.specs.Price.{priceOf}
-use Rattle.meter.specs.declared.Estimate.{Estimate}
-use Rattle.meter.specs.Dial.{advance}
-use Rattle.meter.specs.Sharing.{finalVolumes}
-use Rattle.ledger.specs.declared.Kind.the-variants.{Price}
-use Rattle.ledger.specs.Interest.{interestOn}
-use Rattle.ledger.specs.Posting.{newItem}
+use Rattle.tariff.specs.{declared.Fuel.Fuel, Fuel.averagePrice, Fuel.steps, Fuel.adjustedUnit, Price.priceOf}
+use Rattle.meter.specs.{declared.Estimate.Estimate, Dial.advance, Sharing.finalVolumes}
+use Rattle.ledger.specs.{declared.Kind.the-variants.Price, Interest.interestOn, Posting.newItem}
 use Rattle.closing.specs.Closing.{netOf}
 
 abbrev pub fuel : ℕ → ℕ → Fuel

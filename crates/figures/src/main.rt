@@ -15,13 +15,15 @@ const FUEL: Fuel = Fuel {
     propane: 75_000,
 };
 
-fn text(line: &[u8]) {
-    io::write_all(STDOUT_FILENO, line);
-}
-
-fn number(n: u64) {
-    io::print_decimal(STDOUT_FILENO, n);
-    text(b"\n");
+fn main() {
+    prices();
+    half_span(5_000);
+    half_span(5_001);
+    after_one_miss(40);
+    after_one_miss(30);
+    range();
+    dates();
+    days();
 }
 
 fn prices() {
@@ -69,6 +71,24 @@ fn after_one_miss(pool: u32)
     number(made.volumes[1] as u64);
 }
 
+fn range() {
+    text(b"first day ");
+    number(Day::FIRST.number as u64);
+    text(b"last day ");
+    number(Day::LAST.number as u64);
+}
+
+fn dates() {
+    date_of(0);
+    date_of(29);
+    date_of(59);
+    date_of(60);
+    date_of(366);
+    date_of(36_524);
+    date_of(36_525);
+    date_of(4_294_967_295);
+}
+
 fn date_of(day: u32) {
     text(b"day ");
     io::print_decimal(STDOUT_FILENO, day as u64);
@@ -79,6 +99,21 @@ fn date_of(day: u32) {
         ),
         FoundDate::None => text(b"none\n"),
     }
+}
+
+fn days() {
+    day_of(2000, 1, 1);
+    day_of(2000, 2, 29);
+    day_of(2001, 2, 29);
+    day_of(2004, 2, 29);
+    day_of(2000, 2, 30);
+    day_of(2099, 12, 31);
+    day_of(2100, 1, 1);
+    day_of(1999, 12, 31);
+    day_of(2010, 0, 1);
+    day_of(2010, 13, 1);
+    day_of(2010, 4, 31);
+    day_of(2010, 4, 0);
 }
 
 fn day_of(year: u32, month: u32, day: u32) {
@@ -99,46 +134,11 @@ fn day_of(year: u32, month: u32, day: u32) {
     }
 }
 
-fn range() {
-    text(b"first day ");
-    number(Day::FIRST.number as u64);
-    text(b"last day ");
-    number(Day::LAST.number as u64);
+fn number(n: u64) {
+    io::print_decimal(STDOUT_FILENO, n);
+    text(b"\n");
 }
 
-fn dates() {
-    date_of(0);
-    date_of(29);
-    date_of(59);
-    date_of(60);
-    date_of(366);
-    date_of(36_524);
-    date_of(36_525);
-    date_of(4_294_967_295);
-}
-
-fn days() {
-    day_of(2000, 1, 1);
-    day_of(2000, 2, 29);
-    day_of(2001, 2, 29);
-    day_of(2004, 2, 29);
-    day_of(2000, 2, 30);
-    day_of(2099, 12, 31);
-    day_of(2100, 1, 1);
-    day_of(1999, 12, 31);
-    day_of(2010, 0, 1);
-    day_of(2010, 13, 1);
-    day_of(2010, 4, 31);
-    day_of(2010, 4, 0);
-}
-
-fn main() {
-    prices();
-    half_span(5_000);
-    half_span(5_001);
-    after_one_miss(40);
-    after_one_miss(30);
-    range();
-    dates();
-    days();
+fn text(line: &[u8]) {
+    io::write_all(STDOUT_FILENO, line);
 }

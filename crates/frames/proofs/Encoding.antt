@@ -1,58 +1,48 @@
 -- Every call has a line that is read as that call, by the layout. Assumes nothing.
-use mathlib.Core.Path.{_≡_, refl, ap, _∙_}
-use mathlib.Core.Bool.{Bool, true, false, cond}
-use mathlib.Core.List.{List, [], _∷_, _++_, append-assoc}
-use Prim.Native.Nat.{ℕ, zero, suc, _+_, _*_, _/_, _%_, _^_, _<_}
-use native.Mathlib.Nat.{pow-suc}
-use native.Mathlib.Omega.{arith}
-use lib.Dec.{eqb, ltb}
-use lib.ListN.{length, take, length-append}
-use lib.Seq.{take-at, drop-at}
-use borrow.Author.Tests.{lt-leb, le-leb, ltb-true, ltb-false, eq-eqb}
-use Rattle.lists.specs.Sum.{sum}
-use Rattle.lists.specs.Every.{every}
+use Rattle.common.proofs.Words.{_≡_, refl, ap, _∙_, true, cond, List, [], _∷_, _++_, append-assoc, ℕ, zero, suc, _+_, _*_, _/_, _%_, _^_}
+use Rattle.common.proofs.Words.{_<_, pow-suc, arith, eqb, ltb, length, take, length-append, take-at, lt-leb, le-leb, ltb-true, ltb-false}
+use Rattle.common.proofs.Words.{eq-eqb}
+use lib.Seq.{drop-at}
+use Rattle.lists.specs.{Sum.sum, Every.every}
+use Rattle.common.proofs.Cases.{by-test}
 use Rattle.lists.proofs.Every.{every-behind}
+use Rattle.intake.specs.declared.Call.the-variants.{Opening, Reading, Missed, Absent, Exchange, Disconnection, Reconnection, Cancellation}
+use Rattle.intake.specs.declared.Call.the-variants.{Payment, StoppedCancellation}
 use Rattle.intake.specs.declared.Call.{Call}
-use Rattle.intake.specs.declared.Call.the-variants.{Opening, Reading, Missed, Absent, Exchange, Disconnection, Reconnection, Cancellation, Payment, StoppedCancellation}
-use Rattle.frames.specs.declared.Parsed.{Parsed}
-use Rattle.frames.specs.declared.Parsed.the-variants.{Frame, NotAFrame}
 use Rattle.frames.specs.Digits.{isDigit, valueOf, glyph, digits, bytes, numberOf}
 use Rattle.frames.specs.Layout.{Make, Row, layout, sizeOf, widthsOf, field, filled, framed, toldOf}
 use Rattle.frames.specs.Frames.{parsed, widthsIn, valuesIn, packed, encoded, Fit}
-use Rattle.frames.proofs.Digits.{number-snoc, length-digits, length-behind}
-use Rattle.frames.proofs.Frames.{frame-at, parsed-digits}
+use Rattle.frames.specs.{declared.Parsed.Parsed, declared.Parsed.the-variants.Frame, declared.Parsed.the-variants.NotAFrame}
+use Rattle.frames.proofs.{Digits.number-snoc, Digits.length-digits, Frames.frame-at, Frames.parsed-digits}
 
 -- The character of a digit shows it.
 value-glyph : (d : ℕ) → d < 16 → valueOf (glyph d) ≡ d
-value-glyph d h = go (ltb d 10) refl
-  where
-    go : (b : Bool) → ltb d 10 ≡ b → valueOf (glyph d) ≡ d
-    go true e = rw (e, le-leb (48 + d) 57 (omega (arith, ltb-true d 10 e))) (omega arith)
-    go false e = rw (e, lt-leb (87 + d) 57 (omega (arith, ltb-false d 10 e))) (omega arith)
+value-glyph d h =
+    by-test (ltb d 10) (λ e. rw (e, le-leb (48 + d) 57 (omega (arith, ltb-true d 10 e))) (omega arith))
+    (λ e. rw (e, lt-leb (87 + d) 57 (omega (arith, ltb-false d 10 e))) (omega arith))
 
 glyph-digit : (d : ℕ) → d < 16 → isDigit (glyph d) ≡ true
 unfolding isDigit
-glyph-digit d h = go (ltb d 10) refl
-  where
-    go : (b : Bool) → ltb d 10 ≡ b → isDigit (glyph d) ≡ true
-    go true e = rw (e, le-leb (48 + d) 57 (omega (arith, ltb-true d 10 e)), le-leb 48 (48 + d) (omega arith)) refl
-    go false e =
-        rw (e, lt-leb (87 + d) 57 (omega (arith, ltb-false d 10 e)), le-leb 48 (87 + d) (omega arith), le-leb 97 (87 + d) (omega (arith, ltb-false d 10 e)), le-leb (87 + d) 102 (omega (arith, h))) refl
+glyph-digit d h =
+    by-test (ltb d 10) (λ e. rw (e, le-leb (48 + d) 57 (omega (arith, ltb-true d 10 e)), le-leb 48 (48 + d) (omega arith)))
+    (λ e.
+    let ten = ltb-false d 10 e in
+    rw (e, lt-leb (87 + d) 57 (omega arith), le-leb 48 (87 + d) (omega arith))
+    (rw (le-leb 97 (87 + d) (omega arith), le-leb (87 + d) 102 (omega arith))))
 
 digits-every : (k n : ℕ) → every isDigit (digits 16 k n) ≡ true
 unfolding digits
 digits-every zero n = refl
-digits-every (suc k) n = every-behind isDigit (digits 16 k (n / 16)) (glyph (n % 16) ∷ []) (digits-every k (n / 16)) (rw (glyph-digit (n % 16) (omega arith)) refl)
+digits-every (suc k) n =
+    every-behind isDigit (digits 16 k (n / 16)) (glyph (n % 16) ∷ []) (digits-every k (n / 16)) (rw (glyph-digit (n % 16) (omega arith)))
 
 number-digits : (k n : ℕ) → n < 16 ^ k → numberOf (digits 16 k n) ≡ n
 unfolding digits
-number-digits zero n h = omega (arith, h)
+number-digits zero n h = omega arith
 number-digits (suc k) n h =
-    let less : n / 16 < 16 ^ k = within n (rw (pow-suc 16 k) at h) in
-    number-snoc 0 (digits 16 k (n / 16)) (glyph (n % 16)) ∙ rw (number-digits k (n / 16) less, value-glyph (n % 16) (omega arith)) (omega arith)
-  where
-    within : (m : ℕ) → m < 16 ^ k * 16 → m / 16 < 16 ^ k
-    within m g = omega (arith, g)
+    let less : n / 16 < 16 ^ k = omega (arith, rw (pow-suc 16 k) at h) in
+    number-snoc 0 (digits 16 k (n / 16)) (glyph (n % 16)) ∙
+    rw (number-digits k (n / 16) less, value-glyph (n % 16) (omega arith)) (omega arith)
 
 packed-every : (ws vs : List ℕ) → every isDigit (packed ws vs) ≡ true
 packed-every [] vs = refl
@@ -62,11 +52,11 @@ packed-every (w ∷ ws) (v ∷ vs) = every-behind isDigit (bytes w v) (packed ws
 packed-length : (ws vs : List ℕ) → Fit ws vs → length (packed ws vs) ≡ 2 * sum ws
 packed-length [] vs fit = refl
 packed-length (w ∷ ws) [] fit = absurd fit
-packed-length (w ∷ ws) (v ∷ vs) fit =
-    length-behind (bytes w v) (packed ws vs) (2 * w) (2 * sum ws) (length-digits 16 (2 * w) v) (packed-length ws vs (fit .1)) ∙ omega arith
+packed-length (w ∷ ws) (v ∷ vs) fit = rw (length-append, length-digits, packed-length ws vs (fit .1)) (omega arith)
 
 -- A field behind others.
-field-behind : (before rest : List ℕ) (from w v : ℕ) → length before ≡ 2 * from → v < 16 ^ (2 * w) → field from w (before ++ (bytes w v ++ rest)) ≡ v
+field-behind : (before rest : List ℕ) (from w v : ℕ) → length before ≡ 2 * from → v < 16 ^ (2 * w)
+    → field from w (before ++ (bytes w v ++ rest)) ≡ v
 field-behind before rest from w v l h =
     ap (λ xs. numberOf (take (2 * w) xs)) (drop-at before (bytes w v ++ rest) (2 * from) l) ∙
     ap numberOf (take-at (bytes w v) rest (2 * w) (length-digits 16 (2 * w) v)) ∙
@@ -83,26 +73,31 @@ abbrev remade : List Row → ℕ → List ℕ → Parsed
 remade [] kind vs = NotAFrame
 remade (r ∷ rs) kind vs = cond (eqb kind (r .kind)) (given (r .widths) (r .make) vs) (remade rs kind vs)
 
-filled-packed : (before : List ℕ) (from : ℕ) (ws : List ℕ) (make : Make ws) (vs : List ℕ) → length before ≡ 2 * from → Fit ws vs → Frame (filled ws make from (before ++ packed ws vs)) ≡ given ws make vs
+filled-packed : (before : List ℕ) (from : ℕ) (ws : List ℕ) (make : Make ws) (vs : List ℕ) → length before ≡ 2 * from → Fit ws vs
+    → Frame (filled ws make from (before ++ packed ws vs)) ≡ given ws make vs
 filled-packed before from [] make [] l fit = refl
 filled-packed before from [] make (v ∷ vs) l fit = absurd fit
 filled-packed before from (w ∷ ws) make [] l fit = absurd fit
 filled-packed before from (w ∷ ws) make (v ∷ vs) l fit =
-    let next = filled-packed (before ++ bytes w v) (from + w) ws (make v) vs (length-append before (bytes w v) ∙ rw (l, length-digits 16 (2 * w) v) (omega arith)) (fit .1) in
-    rw (field-behind before (packed ws vs) from w v l (fit .0), ← append-assoc before (bytes w v) (packed ws vs)) next
+    let long : length (before ++ bytes w v) ≡ 2 * (from + w) = rw (length-append, l, length-digits) (omega arith) in
+    rw (field-behind before (packed ws vs) from w v l (fit .0), ← append-assoc before (bytes w v) (packed ws vs))
+    (filled-packed (before ++ bytes w v) (from + w) ws (make v) vs long (fit .1))
 
 -- The row of a kind takes the line that is packed by it.
 module _ (kind : ℕ) (vs : List ℕ) where
   abbrev Taken : List Row → Type 0
-  Taken rows = Fit (widthsOf rows kind) vs → framed rows (sizeOf (widthsOf rows kind)) kind (bytes 1 kind ++ packed (widthsOf rows kind) vs) ≡ remade rows kind vs
+  Taken rows =
+      let ws = widthsOf rows kind in
+      Fit ws vs → framed rows (sizeOf ws) kind (bytes 1 kind ++ packed ws vs) ≡ remade rows kind vs
 
   framed-packed : (rows : List Row) → Taken rows
   framed-packed [] fit = refl
-  framed-packed (r ∷ rs) fit = go (eqb kind (r .kind)) refl (framed-packed rs) fit
-    where
-      go : (b : Bool) → eqb kind (r .kind) ≡ b → Taken rs → Taken (r ∷ rs)
-      go true e ih f = rw (e, eq-eqb (sizeOf (r .widths)) (sizeOf (r .widths)) refl) (filled-packed (bytes 1 kind) 1 (r .widths) (r .make) vs (length-digits 16 2 kind) (rw e at f))
-      go false e ih f = rw e (ih (rw e at f))
+  framed-packed (r ∷ rs) fit =
+      by-test (eqb kind (r .kind))
+      (λ e.
+      rw (e, eq-eqb (sizeOf (r .widths)) (sizeOf (r .widths)) refl)
+      (filled-packed (bytes 1 kind) 1 (r .widths) (r .make) vs (length-digits 16 2 kind) (rw e at fit)))
+      (λ e. rw e (framed-packed rs (rw e at fit)))
 
 -- A row tells its call.
 told : (call : Call) → remade layout (toldOf call .kind) (toldOf call .values) ≡ Frame call

@@ -1,11 +1,9 @@
 -- Numbers as text, in ASCII.
-use mathlib.Core.Path.{_≡_}
 use mathlib.Core.Bool.{Bool, cond, _&&_, _||_}
 use mathlib.Core.List.{List, [], _∷_, _++_}
+use mathlib.Core.Path.{_≡_}
 use Prim.Native.Nat.{ℕ, zero, suc, _+_, _-_, _*_, _/_, _%_, _<_}
-use lib.Dec.{leb, ltb}
-use lib.ListN.{length, getD}
-use lib.Seq.{sets}
+use lib.{Dec.leb, Dec.ltb, ListN.length, ListN.getD, Seq.sets}
 
 abbrev pub lineFeed : ℕ
 lineFeed = 10

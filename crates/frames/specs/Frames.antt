@@ -1,14 +1,12 @@
 -- Input: a line of lower-case hexadecimal is a frame, kind (1 byte), day (2) and the fields of its kind, or it is none.
-use mathlib.Core.Bool.{cond}
 use mathlib.Core.List.{List, [], _∷_, _++_}
+use mathlib.Core.Bool.{cond}
 use Prim.Native.Nat.{ℕ, _*_, _^_, _<_}
 use lib.ListN.{length}
 use Rattle.lists.specs.Every.{every}
 use Rattle.intake.specs.declared.Call.{Call}
-use Rattle.frames.specs.declared.Parsed.{Parsed}
-use Rattle.frames.specs.declared.Parsed.the-variants.{NotAFrame}
-use Rattle.frames.specs.Digits.{isDigit, bytes}
 use Rattle.frames.specs.Layout.{layout, widthsOf, field, framed, toldOf}
+use Rattle.frames.specs.{declared.Parsed.Parsed, declared.Parsed.the-variants.NotAFrame, Digits.isDigit, Digits.bytes}
 
 abbrev pub kindOf : List ℕ → ℕ
 kindOf line = field 0 1 line

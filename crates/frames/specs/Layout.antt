@@ -1,15 +1,13 @@
 -- The frames, told once: a row for each call, with its kind, the bytes of each field behind the kind, and the call that the fields make.
-use mathlib.Core.Bool.{cond, _&&_}
-use mathlib.Core.List.{List, [], _∷_}
+use mathlib.Core.{Bool.cond, Bool._&&_, List.List, List.[], List._∷_}
 use Prim.Native.Nat.{ℕ, _+_, _*_}
-use lib.Dec.{eqb}
-use lib.ListN.{take, drop}
+use lib.{Dec.eqb, ListN.take, ListN.drop}
 use Rattle.lists.specs.Sum.{sum}
 use Rattle.tariff.specs.declared.Fuel.{Fuel}
+use Rattle.intake.specs.declared.Call.the-variants.{Opening, Reading, Missed, Absent, Exchange, Disconnection, Reconnection, Cancellation}
+use Rattle.intake.specs.declared.Call.the-variants.{Payment, StoppedCancellation}
 use Rattle.intake.specs.declared.Call.{Call}
-use Rattle.intake.specs.declared.Call.the-variants.{Opening, Reading, Missed, Absent, Exchange, Disconnection, Reconnection, Cancellation, Payment, StoppedCancellation}
-use Rattle.frames.specs.declared.Parsed.{Parsed}
-use Rattle.frames.specs.declared.Parsed.the-variants.{Frame, NotAFrame}
+use Rattle.frames.specs.{declared.Parsed.Parsed, declared.Parsed.the-variants.Frame, declared.Parsed.the-variants.NotAFrame}
 use Rattle.frames.specs.Digits.{numberOf}
 
 -- What makes a call of a number for each field.

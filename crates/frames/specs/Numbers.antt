@@ -1,20 +1,14 @@
 -- Frames as numbers: what stands in a frame, before it is a call.
-use mathlib.Core.Path.{_≡_}
-use mathlib.Core.Bool.{cond}
-use mathlib.Core.Logic.{_⊎_}
-use mathlib.Core.List.{List, [], _∷_}
+use mathlib.Core.{Path._≡_, Bool.cond, Logic._⊎_, List.List, List.[], List._∷_}
 use Prim.Native.Nat.{ℕ, _+_, _≤_, _<_}
-use lib.Dec.{eqb}
 use lib.ListN.{length, getD, take, drop}
+use lib.Dec.{eqb}
+use Rattle.intake.specs.declared.Call.the-variants.{Opening, Reading, Missed, Absent, Exchange, Disconnection, Reconnection, Cancellation}
+use Rattle.intake.specs.declared.Call.the-variants.{Payment, StoppedCancellation}
 use Rattle.intake.specs.declared.Call.{Call}
-use Rattle.intake.specs.declared.Call.the-variants.{Opening, Reading, Missed, Absent, Exchange, Disconnection, Reconnection, Cancellation, Payment, StoppedCancellation}
-use Rattle.frames.specs.declared.Parsed.{Parsed}
-use Rattle.frames.specs.declared.Parsed.the-variants.{Frame, NotAFrame}
-use Rattle.frames.specs.declared.Fields.{Fields}
-use Rattle.frames.specs.declared.Widths.{Widths}
-use Rattle.frames.specs.Digits.{noDigit, valueOr, lineFeed}
-use Rattle.frames.specs.Layout.{fuel, layout, widthsOf}
-use Rattle.frames.specs.Frames.{parsed}
+use Rattle.frames.specs.{declared.Parsed.Parsed, declared.Parsed.the-variants.Frame, declared.Parsed.the-variants.NotAFrame}
+use Rattle.frames.specs.{declared.Fields.Fields, declared.Widths.Widths, Digits.noDigit, Digits.valueOr, Digits.lineFeed}
+use Rattle.frames.specs.{Layout.fuel, Layout.layout, Layout.widthsOf, Frames.parsed}
 
 -- The characters of each field behind the day: up to three of four bytes, then perhaps one of a single byte.
 abbrev pub widths : ℕ → ℕ → ℕ → ℕ → Widths
@@ -115,6 +109,11 @@ pub record Begins (input : List ℕ) (at char : ℕ) : Type 0 where
   pub room : at + 31 ≤ length input
   pub zero : getD input at 0 ≡ 48
   pub second : getD input (at + 1) 0 ≡ char
+
+-- A field that lies in an input: eight characters at most.
+pub record FieldIn (input : List ℕ) (from width : ℕ) : Type 0 where
+  pub within : from + width ≤ length input
+  pub few : width ≤ 8
 
 -- One of so many numbers.
 abbrev pub Any2 : ℕ → ℕ → ℕ → Type 0

@@ -3,7 +3,7 @@ ghost use mathlib.Core.Path.{_≡_};
 ghost use Prim.Native.Nat.{_+_, _≤_};
 ghost use lib.ListN.{length, take, drop};
 ghost use Rattle.frames.specs.Digits.{valueOr, ValueTable, readOf};
-ghost use Rattle.frames.specs.Numbers.{widths, widthsBy, noFields, fieldsOf, callOf, SmallIn, Checked, ReadIn, ReadAt, Begins, Any2, Any3};
+ghost use Rattle.frames.specs.Numbers.{widths, widthsBy, noFields, fieldsOf, callOf, SmallIn, Checked, ReadIn, ReadAt, Begins, FieldIn, Any2, Any3};
 use intake::Call;
 use tariff::Fuel;
 
@@ -156,7 +156,7 @@ pub fn fields_at(input: &[u8], table: &[u64; 256], at: usize) -> Fields
     }
 }
 
-// 02, 06 and 08
+// 02, 06 and 08: a reading closes the period
 fn closing_fields(input: &[u8], table: &[u64; 256], at: usize, kind: u8) -> Fields
     requires { ⌜ Begins (now input) at kind ⌝ }
     requires { ⌜ ValueTable (now table) ⌝ }
@@ -170,7 +170,7 @@ fn closing_fields(input: &[u8], table: &[u64; 256], at: usize, kind: u8) -> Fiel
     checked(30, kind, day, first, second, third, 0, input[at + 30])
 }
 
-// 03 and 04
+// 03 and 04: a missed reading
 fn estimate_fields(input: &[u8], table: &[u64; 256], at: usize, kind: u8) -> Fields
     requires { ⌜ Begins (now input) at kind ⌝ }
     requires { ⌜ ValueTable (now table) ⌝ }
@@ -183,7 +183,7 @@ fn estimate_fields(input: &[u8], table: &[u64; 256], at: usize, kind: u8) -> Fie
     checked(22, kind, day, first, second, 0, 0, input[at + 22])
 }
 
-// 01 and 07
+// 01 and 07: supply begins at a dial
 fn dial_fields(input: &[u8], table: &[u64; 256], at: usize, kind: u8) -> Fields
     requires { ⌜ Begins (now input) at kind ⌝ }
     requires { ⌜ ValueTable (now table) ⌝ }
@@ -196,7 +196,7 @@ fn dial_fields(input: &[u8], table: &[u64; 256], at: usize, kind: u8) -> Fields
     checked(16, kind, day, first, 0, 0, short, input[at + 16])
 }
 
-// 05
+// 05: meter change
 fn exchange_fields(input: &[u8], table: &[u64; 256], at: usize, kind: u8) -> Fields
     requires { ⌜ Begins (now input) at kind ⌝ }
     requires { ⌜ ValueTable (now table) ⌝ }
@@ -210,7 +210,7 @@ fn exchange_fields(input: &[u8], table: &[u64; 256], at: usize, kind: u8) -> Fie
     checked(24, kind, day, first, second, 0, short, input[at + 24])
 }
 
-// 09
+// 09: payment
 fn payment_fields(input: &[u8], table: &[u64; 256], at: usize, kind: u8) -> Fields
     requires { ⌜ Begins (now input) at kind ⌝ }
     requires { ⌜ ValueTable (now table) ⌝ }
@@ -222,7 +222,7 @@ fn payment_fields(input: &[u8], table: &[u64; 256], at: usize, kind: u8) -> Fiel
     checked(14, kind, day, first, 0, 0, 0, input[at + 14])
 }
 
-// 0a
+// 0a: cancellation while stopped
 fn stopped_fields(input: &[u8], table: &[u64; 256], at: usize, kind: u8) -> Fields
     requires { ⌜ Begins (now input) at kind ⌝ }
     requires { ⌜ ValueTable (now table) ⌝ }
@@ -235,8 +235,7 @@ fn stopped_fields(input: &[u8], table: &[u64; 256], at: usize, kind: u8) -> Fiel
 
 // A field of so many characters: its number, or 2^32 and more.
 fn field(input: &[u8], table: &[u64; 256], from: usize, width: usize) -> u64
-    requires { ⌜ from + width ≤ length (now input) ⌝ }
-    requires { ⌜ width ≤ 8 ⌝ }
+    requires { ⌜ FieldIn (now input) from width ⌝ }
     requires { ⌜ ValueTable (now table) ⌝ }
     ensures { λ r. ⌜ r ≡ readOf (take width (drop from (now (input .entry)))) ⌝ }
 {

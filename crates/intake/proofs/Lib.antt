@@ -1,3 +1,2 @@
 -- Laws of calls that pass numbers 1 to 11.
-pub mod Tests
 pub mod Passed

@@ -1,18 +1,12 @@
 -- The numbers of an account beside its estimates and its ledger, and what is known of those of every whole account.
-use mathlib.Core.Path.{_≡_}
-use mathlib.Core.Bool.{true}
+use mathlib.Core.{Path._≡_, Bool.true}
 use Prim.Native.Nat.{ℕ, _+_, _≤_, _<_}
 use lib.ListN.{length}
 use Rattle.lists.specs.Every.{Every}
-use Rattle.meter.specs.declared.Meter.{Meter}
-use Rattle.meter.specs.declared.Estimate.{Estimate}
-use Rattle.meter.specs.declared.Estimates.{Estimates}
-use Rattle.meter.specs.Dial.{span, Digits}
+use Rattle.meter.specs.{declared.Meter.Meter, declared.Estimate.Estimate, declared.Estimates.Estimates, Dial.span, Dial.Digits}
 use Rattle.meter.specs.Sharing.{standing}
-use Rattle.intake.specs.declared.Status.{Status}
-use Rattle.intake.specs.declared.Head.{Head}
 use Rattle.intake.specs.Limits.{mostVolume, mostMisses, mostDays, mostCharge, fuelAllowed}
-use Rattle.intake.specs.Statuses.{isSupplied, startOf}
+use Rattle.intake.specs.{declared.Status.Status, declared.Head.Head, Statuses.isSupplied, Statuses.startOf}
 
 -- The head behind a call of this day.
 abbrev pub headOn : Head → Status → ℕ → Meter → ℕ → Head

@@ -2,35 +2,16 @@
 use mathlib.Core.Bool.{Bool, _&&_}
 use Prim.Native.Nat.{ℕ, _%_}
 use lib.Dec.{leb, ltb, eqb}
+use Rattle.common.specs.Range.{within}
 use Rattle.tariff.specs.declared.Fuel.{Fuel}
 use Rattle.meter.specs.Dial.{span}
 use Rattle.ledger.specs.Limits.{lastCallDay}
-
--- A fuel price in yen, and the pool and a volume in m³.
-abbrev pub mostFuelPrice : ℕ
-mostFuelPrice = 300000
-
-abbrev pub mostVolume : ℕ
-mostVolume = 99999
-
--- Misses that stand estimated.
-abbrev pub mostMisses : ℕ
-mostMisses = 6
+pub use Rattle.tariff.specs.Limits.{mostDays, mostFuelPrice, mostVolume, mostCharge}
+pub use Rattle.meter.specs.Limits.{mostMisses}
 
 -- A payment in yen.
 abbrev pub mostPayment : ℕ
 mostPayment = 99999999
-
--- The days of a period, and what is charged for one.
-abbrev pub mostDays : ℕ
-mostDays = 36495
-
-abbrev pub mostCharge : ℕ
-mostCharge = 100000000
-
--- a number from low to high
-abbrev pub within : ℕ → ℕ → ℕ → Bool
-within low high n = leb low n && leb n high
 
 -- 2: calls take the days 0 to 36,494.
 abbrev pub dayAllowed : ℕ → Bool

@@ -1,17 +1,14 @@
--- When a call is declined for what its account's head and the call itself show: numbers 1 to 11, in the paper's order. 0 stands for none.
+-- When a call is declined for what its account's head and the call itself show: numbers 1 to 11, in document 01's order. 0 stands for none.
 use mathlib.Core.Bool.{Bool, cond, _&&_, not}
 use Prim.Native.Nat.{ℕ, _+_}
 use lib.Dec.{leb, ltb}
 use Rattle.tariff.specs.declared.Fuel.{Fuel}
-use Rattle.meter.specs.declared.Meter.{Meter}
-use Rattle.meter.specs.Dial.{advance, withinHalf}
-use Rattle.meter.specs.Metering.{poolTo}
-use Rattle.intake.specs.declared.Head.{Head}
-use Rattle.intake.specs.declared.Call.{Call}
-use Rattle.intake.specs.declared.Call.the-variants.{Opening, Reading, Missed, Absent, Exchange, Disconnection, Reconnection, Cancellation, Payment, StoppedCancellation}
+use Rattle.meter.specs.{declared.Meter.Meter, Dial.advance, Dial.withinHalf, Metering.poolTo}
+use Rattle.intake.specs.declared.Call.the-variants.{Opening, Reading, Missed, Absent, Exchange, Disconnection, Reconnection}
+use Rattle.intake.specs.declared.Call.the-variants.{Cancellation, Payment, StoppedCancellation}
 use Rattle.intake.specs.Limits.{dayAllowed, digitsAllowed, onDial, fuelAllowed, missesAllowed, volumeAllowed, paymentAllowed}
 use Rattle.intake.specs.Statuses.{isNew, isSupplied, isStopped, startOf}
-use Rattle.intake.specs.Periods.{daysOf}
+use Rattle.intake.specs.{declared.Head.Head, declared.Call.Call, Periods.daysOf}
 
 -- a cause that applies has its number, and else the causes after it are looked at
 abbrev pub unless : Bool → ℕ → ℕ → ℕ
@@ -30,30 +27,30 @@ advances m reading =
 abbrev pub someDay : Head → ℕ → Bool
 someDay h day = ltb 0 (daysOf (startOf (h .status)) day)
 
--- 02, 06 and 08.
+-- 02, 06 and 08: a reading closes the period.
 abbrev pub readingRefusal : Head → ℕ → ℕ → Fuel → ℕ
 readingRefusal h day reading fuel =
     begins (isSupplied (h .status)) (h .latest) day
     (unless (onDial (h .meter .digits) reading) 5 (unless (fuelAllowed fuel) 6 (unless (someDay h day) 7 (advances (h .meter) reading))))
 
--- 03 and 04.
+-- 03 and 04: a missed reading.
 abbrev pub missRefusal : Head → ℕ → Fuel → ℕ
 missRefusal h day fuel =
     begins (isSupplied (h .status)) (h .latest) day
     (unless (fuelAllowed fuel) 6 (unless (someDay h day) 7 (unless (missesAllowed (h .standing + 1)) 8 0)))
 
--- 01 and 07.
+-- 01 and 07: supply begins at a dial.
 abbrev pub dialRefusal : Bool → Head → ℕ → ℕ → ℕ → ℕ
 dialRefusal allowed h day reading digits =
     begins allowed (h .latest) day (unless (digitsAllowed digits) 4 (unless (onDial digits reading) 5 0))
 
--- 05.
+-- 05: meter change.
 abbrev pub exchangeRefusal : Head → ℕ → ℕ → ℕ → ℕ → ℕ
 exchangeRefusal h day old new digits =
     begins (isSupplied (h .status)) (h .latest) day
     (unless (digitsAllowed digits) 4 (unless (onDial (h .meter .digits) old && onDial digits new) 5 (advances (h .meter) old)))
 
--- 09.
+-- 09: payment.
 abbrev pub paymentRefusal : Head → ℕ → ℕ → ℕ
 paymentRefusal h day yen = begins (not (isNew (h .status))) (h .latest) day (unless (paymentAllowed yen) 11 0)
 

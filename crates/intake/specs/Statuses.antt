@@ -1,8 +1,8 @@
 -- What a status tells: which it is, and the day that it holds.
 use mathlib.Core.Bool.{Bool, true, false}
 use Prim.Native.Nat.{ℕ}
-use Rattle.intake.specs.declared.Status.{Status}
 use Rattle.intake.specs.declared.Status.the-variants.{New, Supplied, Stopped, Cancelled}
+use Rattle.intake.specs.declared.Status.{Status}
 
 abbrev pub isNew : Status → Bool
 isNew New = true

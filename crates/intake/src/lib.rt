@@ -16,59 +16,59 @@ pub enum Status {
 }
 
 pub enum Call {
-    // 01
+    // 01: opening
     Opening {
         day: u16,
         reading: u32,
         digits: u8,
     },
-    // 02
+    // 02: reading
     Reading {
         day: u16,
         reading: u32,
         fuel: Fuel,
     },
-    // 03
+    // 03: missed reading
     Missed {
         day: u16,
         fuel: Fuel,
     },
-    // 04
+    // 04: missed reading, absence known
     Absent {
         day: u16,
         fuel: Fuel,
     },
-    // 05
+    // 05: meter change
     Exchange {
         day: u16,
         old: u32,
         new: u32,
         digits: u8,
     },
-    // 06
+    // 06: stop
     Disconnection {
         day: u16,
         reading: u32,
         fuel: Fuel,
     },
-    // 07
+    // 07: resumption
     Reconnection {
         day: u16,
         reading: u32,
         digits: u8,
     },
-    // 08
+    // 08: cancellation
     Cancellation {
         day: u16,
         reading: u32,
         fuel: Fuel,
     },
-    // 09
+    // 09: payment
     Payment {
         day: u16,
         yen: u32,
     },
-    // 0a
+    // 0a: cancellation while stopped
     StoppedCancellation {
         day: u16,
     },

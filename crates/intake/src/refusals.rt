@@ -1,4 +1,4 @@
-// When a call is declined for what the head and the call show: numbers 1 to 11, in the paper's order. 0 stands for none.
+// When a call is declined for what the head and the call show: numbers 1 to 11, in document 01's order. 0 stands for none.
 ghost use mathlib.Core.Path.{_≡_};
 ghost use Prim.Native.Nat.{_≤_};
 ghost use Rattle.meter.specs.Dial.{OnDial};
@@ -21,7 +21,7 @@ use meter::dial_advance;
 use meter::within_half;
 use tariff::Fuel;
 
-// 02, 06 and 08
+// 02, 06 and 08: a reading closes the period
 pub fn reading_refusal(head: Head, day: u16, reading: u32, fuel: Fuel) -> u8
     requires { ⌜ HeadBounds head ⌝ }
     ensures { λ r. ⌜ r ≡ readingRefusal head day reading fuel ⌝ }
@@ -44,7 +44,7 @@ pub fn reading_refusal(head: Head, day: u16, reading: u32, fuel: Fuel) -> u8
     advance_refusal(meter, reading)
 }
 
-// 03 and 04
+// 03 and 04: a missed reading
 pub fn miss_refusal(head: Head, day: u16, fuel: Fuel) -> u8
     ensures { λ r. ⌜ r ≡ missRefusal head day fuel ⌝ }
 {
@@ -65,7 +65,7 @@ pub fn miss_refusal(head: Head, day: u16, fuel: Fuel) -> u8
     0
 }
 
-// 01 and 07
+// 01 and 07: supply begins at a dial
 pub fn dial_refusal(allowed: bool, head: Head, day: u16, reading: u32, digits: u8) -> u8
     ensures { λ r. ⌜ r ≡ dialRefusal allowed head day reading digits ⌝ }
 {
@@ -82,7 +82,7 @@ pub fn dial_refusal(allowed: bool, head: Head, day: u16, reading: u32, digits: u
     0
 }
 
-// 05
+// 05: meter change
 pub fn exchange_refusal(head: Head, day: u16, old: u32, new: u32, digits: u8) -> u8
     requires { ⌜ HeadBounds head ⌝ }
     ensures { λ r. ⌜ r ≡ exchangeRefusal head day old new digits ⌝ }
@@ -105,7 +105,7 @@ pub fn exchange_refusal(head: Head, day: u16, old: u32, new: u32, digits: u8) ->
     advance_refusal(meter, old)
 }
 
-// 09
+// 09: payment
 pub fn payment_refusal(head: Head, day: u16, yen: u32) -> u8
     ensures { λ r. ⌜ r ≡ paymentRefusal head day yen ⌝ }
 {

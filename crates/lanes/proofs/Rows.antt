@@ -1,21 +1,12 @@
 -- Items as three lists of numbers. Assumes nothing.
-use mathlib.Core.Path.{_≡_, refl, sym, ap, _∙_}
-use mathlib.Core.Bool.{cond}
-use mathlib.Core.List.{List, [], _∷_, _++_}
-use Prim.Native.Nat.{ℕ, zero, suc, _+_, _-_, _*_, _/_, _%_, _≤_, _<_}
-use native.Mathlib.Nat.{suc-ne-zero, suc-inj, add-comm}
-use native.Mathlib.Omega.{arith}
-use lib.Dec.{ltb}
-use lib.ListN.{length, getD, set, take, drop, length-drop}
-use lib.Seq.{set-getD, getD-append-add, length-take-le, getD-drop}
-use borrow.Author.Tests.{lt-ltb, le-ltb}
+use Rattle.common.proofs.Words.{_≡_, refl, sym, ap, _∙_, cond, List, [], _∷_, _++_, ℕ, zero, suc, _+_, _-_, _*_, _/_, _%_, min, _≤_, _<_}
+use Rattle.common.proofs.Words.{not-suc-le-zero, le-of-suc-le-suc, arith, ltb, length, getD, set, take, drop, length-drop, length-take-le}
+use Rattle.common.proofs.Words.{getD-drop, lt-ltb, le-ltb}
+use native.Mathlib.Nat.{add-comm}
+use lib.Seq.{set-getD, getD-append-add}
 use Rattle.lists.proofs.Pad.{fill-next}
-use Rattle.ledger.specs.Limits.{lanePlaces}
-use Rattle.ledger.specs.declared.Kind.{Kind}
-use Rattle.ledger.specs.declared.Kind.the-variants.{Interest, Price}
-use Rattle.ledger.specs.declared.Item.{Item}
-use Rattle.ledger.specs.Settling.{reduced}
-use Rattle.ledger.specs.Posting.{blank}
+use Rattle.ledger.specs.{Limits.lanePlaces, declared.Kind.Kind, declared.Kind.the-variants.Interest, declared.Kind.the-variants.Price}
+use Rattle.ledger.specs.{declared.Item.Item, Settling.reduced, Posting.blank}
 use Rattle.lanes.specs.Lanes.{kindLabel, labelOf, itemOf, rows, Long}
 
 pub kind-most : (k : Kind) → kindLabel k ≤ 4294967296
@@ -46,34 +37,30 @@ label-back item o d = λ i.
     kind Interest = rw (lt-ltb (item .obligation + item .due * 65536 + 0) 4294967296 (omega arith))
     kind Price = rw (le-ltb (item .obligation + item .due * 65536 + 4294967296) 4294967296 (omega arith))
 
-length-rows : (n : ℕ) (us bs ls : List ℕ) → length us ≡ n → length bs ≡ n → length ls ≡ n → length (rows us bs ls) ≡ n
-length-rows n [] bs ls u b l = u
-length-rows zero (x ∷ us) bs ls u b l = absurd (suc-ne-zero (length us) u)
-length-rows (suc n) (x ∷ us) [] ls u b l = absurd (suc-ne-zero n (sym b))
-length-rows (suc n) (x ∷ us) (y ∷ bs) [] u b l = absurd (suc-ne-zero n (sym l))
-length-rows (suc n) (x ∷ us) (y ∷ bs) (z ∷ ls) u b l = ap suc (length-rows n us bs ls (suc-inj u) (suc-inj b) (suc-inj l))
+-- As many items as the shortest list has places; each is what the three lists hold at its place.
+length-rows : (us bs ls : List ℕ) → length (rows us bs ls) ≡ min (length us) (min (length bs) (length ls))
+length-rows [] bs ls = omega arith
+length-rows (u ∷ us) [] ls = omega arith
+length-rows (u ∷ us) (b ∷ bs) [] = omega arith
+length-rows (u ∷ us) (b ∷ bs) (l ∷ ls) = omega (arith, length-rows us bs ls)
 
-getD-rows : (n i : ℕ) (us bs ls : List ℕ) → length us ≡ n → length bs ≡ n → length ls ≡ n → i < n
+getD-rows : (i : ℕ) (us bs ls : List ℕ) → i < length (rows us bs ls)
     → getD (rows us bs ls) i blank ≡ itemOf (getD us i 0) (getD bs i 0) (getD ls i 0)
-getD-rows n i [] bs ls u b l h = absurd (never u h)
-  where
-    never : 0 ≡ n → i < n → ⊥
-    never e k = omega arith
-getD-rows zero i (x ∷ us) bs ls u b l h = absurd (suc-ne-zero (length us) u)
-getD-rows (suc n) i (x ∷ us) [] ls u b l h = absurd (suc-ne-zero n (sym b))
-getD-rows (suc n) i (x ∷ us) (y ∷ bs) [] u b l h = absurd (suc-ne-zero n (sym l))
-getD-rows (suc n) zero (x ∷ us) (y ∷ bs) (z ∷ ls) u b l h = refl
-getD-rows (suc n) (suc i) (x ∷ us) (y ∷ bs) (z ∷ ls) u b l h = getD-rows n i us bs ls (suc-inj u) (suc-inj b) (suc-inj l) (omega arith)
+getD-rows i [] bs ls h = absurd (not-suc-le-zero h)
+getD-rows i (u ∷ us) [] ls h = absurd (not-suc-le-zero h)
+getD-rows i (u ∷ us) (b ∷ bs) [] h = absurd (not-suc-le-zero h)
+getD-rows zero (u ∷ us) (b ∷ bs) (l ∷ ls) h = refl
+getD-rows (suc i) (u ∷ us) (b ∷ bs) (l ∷ ls) h = getD-rows i us bs ls (le-of-suc-le-suc h)
 
-set-rows : (n i : ℕ) (us bs ls : List ℕ) (x y z : ℕ) → length us ≡ n → length bs ≡ n → length ls ≡ n
+pub row-set : (i x y z : ℕ) (us bs ls : List ℕ)
     → rows (set us i x) (set bs i y) (set ls i z) ≡ set (rows us bs ls) i (itemOf x y z)
-set-rows n i [] bs ls x y z u b l = refl
-set-rows zero i (p ∷ us) bs ls x y z u b l = absurd (suc-ne-zero (length us) u)
-set-rows (suc n) i (p ∷ us) [] ls x y z u b l = absurd (suc-ne-zero n (sym b))
-set-rows (suc n) i (p ∷ us) (q ∷ bs) [] x y z u b l = absurd (suc-ne-zero n (sym l))
-set-rows (suc n) zero (p ∷ us) (q ∷ bs) (r ∷ ls) x y z u b l = refl
-set-rows (suc n) (suc i) (p ∷ us) (q ∷ bs) (r ∷ ls) x y z u b l =
-    ap (λ items. itemOf p q r ∷ items) (set-rows n i us bs ls x y z (suc-inj u) (suc-inj b) (suc-inj l))
+row-set i x y z [] bs ls = refl
+row-set zero x y z (u ∷ us) [] ls = refl
+row-set zero x y z (u ∷ us) (b ∷ bs) [] = refl
+row-set zero x y z (u ∷ us) (b ∷ bs) (l ∷ ls) = refl
+row-set (suc i) x y z (u ∷ us) [] ls = refl
+row-set (suc i) x y z (u ∷ us) (b ∷ bs) [] = refl
+row-set (suc i) x y z (u ∷ us) (b ∷ bs) (l ∷ ls) = rw (row-set i x y z us bs ls)
 
 -- Behind the front of a list that is filled, element by element, it is as it was.
 module _ {A : Type 0} (front rest : List A) (d : A) where
@@ -96,36 +83,27 @@ slide-next old d front i h =
     sym (getD-drop front old i d) in
     rw read (fill-next (drop front old) old d i (omega arith) (omega arith))
 
-item-reduced : (u b l paid : ℕ) → itemOf (u - paid) b l ≡ reduced (itemOf u b l) paid
-unfolding itemOf
-item-reduced u b l paid = refl
-
-item-unpaid : (u b l : ℕ) → itemOf u b l .unpaid ≡ u
-unfolding itemOf
-item-unpaid u b l = refl
-
 -- The items after a call that was lent the three arrays.
 abbrev pub rows-in : {A : Type 0} → List ℕ × (List ℕ × (List ℕ × A)) → List Item
 rows-in last = rows (last .0) (last .1 .0) (last .1 .1 .0)
 
--- Three arrays of lanePlaces: how many items they are, the item at a place, and an item or less unpaid stored there.
+-- Three arrays of lanePlaces: how many items they are, the item at a place, and less unpaid stored there.
 module _ {us bs ls : List ℕ} (long : Long us bs ls) where
   pub rows-long : length (rows us bs ls) ≡ lanePlaces
-  rows-long = length-rows lanePlaces us bs ls (long .unpaid-long) (long .amount-long) (long .label-long)
+  rows-long = omega (arith, length-rows us bs ls, long)
 
-  pub row-at : (at : ℕ) → at < lanePlaces → getD (rows us bs ls) at blank ≡ itemOf (getD us at 0) (getD bs at 0) (getD ls at 0)
-  row-at at h = getD-rows lanePlaces at us bs ls (long .unpaid-long) (long .amount-long) (long .label-long) h
+  module _ (at : ℕ) (h : at < lanePlaces) where
+    pub row-at : getD (rows us bs ls) at blank ≡ itemOf (getD us at 0) (getD bs at 0) (getD ls at 0)
+    row-at = getD-rows at us bs ls (omega (arith, rows-long))
 
-  pub row-unpaid : (at : ℕ) → at < lanePlaces → getD (rows us bs ls) at blank .unpaid ≡ getD us at 0
-  row-unpaid at h = ap (λ (x : Item). x .unpaid) (row-at at h) ∙ item-unpaid (getD us at 0) (getD bs at 0) (getD ls at 0)
+    pub row-unpaid : getD (rows us bs ls) at blank .unpaid ≡ getD us at 0
+    unfolding itemOf
+    row-unpaid = ap (λ (x : Item). x .unpaid) row-at
 
-  pub row-set : (at u b l : ℕ) → rows (set us at u) (set bs at b) (set ls at l) ≡ set (rows us bs ls) at (itemOf u b l)
-  row-set at u b l = set-rows lanePlaces at us bs ls u b l (long .unpaid-long) (long .amount-long) (long .label-long)
-
-  pub row-reduced : (at paid : ℕ) → at < lanePlaces
-      → rows (set us at (getD us at 0 - paid)) bs ls ≡ set (rows us bs ls) at (reduced (getD (rows us bs ls) at blank) paid)
-  row-reduced at paid h =
-      (λ i. rows (set us at (getD us at 0 - paid)) (sym (set-getD bs at 0) i) (sym (set-getD ls at 0) i)) ∙
-      row-set at (getD us at 0 - paid) (getD bs at 0) (getD ls at 0) ∙
-      ap (set (rows us bs ls) at)
-      (item-reduced (getD us at 0) (getD bs at 0) (getD ls at 0) paid ∙ sym (ap (λ item. reduced item paid) (row-at at h)))
+    pub row-reduced : (paid : ℕ)
+        → rows (set us at (getD us at 0 - paid)) bs ls ≡ set (rows us bs ls) at (reduced (getD (rows us bs ls) at blank) paid)
+    unfolding itemOf
+    row-reduced paid =
+        (λ i. rows (set us at (getD us at 0 - paid)) (sym (set-getD bs at 0) i) (sym (set-getD ls at 0) i)) ∙
+        row-set at (getD us at 0 - paid) (getD bs at 0) (getD ls at 0) us bs ls ∙
+        ap (λ item. set (rows us bs ls) at (reduced item paid)) (sym row-at)

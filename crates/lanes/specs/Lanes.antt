@@ -1,19 +1,13 @@
 -- Items in three lanes of numbers: what is unpaid, the amount, and a label of obligation day, due day and kind.
-use mathlib.Core.Path.{_≡_}
-use mathlib.Core.Bool.{cond}
-use mathlib.Core.List.{List, [], _∷_}
+use mathlib.Core.{Path._≡_, Bool.cond, List.List, List.[], List._∷_}
 use Prim.Native.Nat.{ℕ, _+_, _*_, _/_, _%_, _≤_}
-use lib.Dec.{ltb}
-use lib.ListN.{length}
-use Rattle.ledger.specs.declared.Kind.{Kind}
-use Rattle.ledger.specs.declared.Kind.the-variants.{Interest, Price}
-use Rattle.ledger.specs.declared.Item.{Item}
-use Rattle.ledger.specs.declared.Entry.{Entry}
-use Rattle.ledger.specs.declared.Queue.{Queue}
-use Rattle.ledger.specs.Limits.{capacity, lanePlaces, mostEnd}
+use lib.{Dec.ltb, ListN.length, ListN.take, ListN.drop}
+use Rattle.lists.specs.Every.{Every}
 use Rattle.ledger.specs.Entries.{asked, numberOf, next, interestPosted}
-use Rattle.ledger.specs.Numbers.{lying, Lies}
-use Rattle.ledger.specs.declared.Entered.{Entered}
+use Rattle.ledger.specs.{declared.Kind.Kind, declared.Kind.the-variants.Interest, declared.Kind.the-variants.Price, declared.Item.Item}
+use Rattle.ledger.specs.{declared.Entry.Entry, declared.Queue.Queue, Limits.capacity, Limits.lanePlaces, Limits.mostEnd}
+use Rattle.ledger.specs.{Limits.lastCallDay, Posting.ItemBounds}
+use Rattle.ledger.specs.{Numbers.lying, Numbers.Lies, Numbers.Fit, declared.Entered.Entered}
 
 abbrev pub kindLabel : Kind → ℕ
 kindLabel Interest = 0
@@ -43,6 +37,20 @@ pub record Long (us bs ls : List ℕ) : Type 0 where
   pub unpaid-long : length us ≡ lanePlaces
   pub amount-long : length bs ≡ lanePlaces
   pub label-long : length ls ≡ lanePlaces
+
+-- Money can cover items from a place on, on a day.
+pub record Coverable (us bs ls : List ℕ) (front count day : ℕ) : Type 0 where
+  pub long : Long us bs ls
+  pub end-most : front + count ≤ lanePlaces
+  pub few : count ≤ capacity
+  pub day-most : day ≤ lastCallDay
+  pub bounds : Every ItemBounds (take count (drop front (rows us bs ls)))
+
+-- An entry can be worked on a queue whose items lie in the lanes.
+pub record Workable (us bs ls : List ℕ) (q : Queue) : Type 0 where
+  pub long : Long us bs ls
+  pub fit : Fit (rows us bs ls) q
+  pub room : q .front + q .count ≤ mostEnd
 
 -- An entry is worked on a queue among items: the queue and the items after it.
 pub record Worked (before : List Item) (q : Queue) (e : Entry) (after : List Item) (r : Entered) : Type 0 where

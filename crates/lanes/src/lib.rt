@@ -4,12 +4,11 @@ ghost use mathlib.Core.List.{_++_};
 ghost use Prim.Native.Nat.{ℕ, _+_, _≤_, _<_};
 ghost use lib.ListN.{getD, set, take, drop};
 ghost use Rattle.lists.specs.Pad.{pad};
-ghost use Rattle.lists.specs.Every.{Every};
-ghost use Rattle.ledger.specs.Limits.{lastCallDay, capacity, lanePlaces, mostEnd};
-ghost use Rattle.ledger.specs.Posting.{standing, coverage, blank, ItemBounds};
+ghost use Rattle.ledger.specs.Limits.{lastCallDay, capacity, lanePlaces};
+ghost use Rattle.ledger.specs.Posting.{standing, coverage, blank};
 ghost use Rattle.ledger.specs.Entries.{EntryBounds, Within, Answered};
-ghost use Rattle.ledger.specs.Numbers.{Fit, places, posted};
-ghost use Rattle.lanes.specs.Lanes.{kindLabel, labelOf, itemOf, rows, Long, Worked};
+ghost use Rattle.ledger.specs.Numbers.{places, posted};
+ghost use Rattle.lanes.specs.Lanes.{kindLabel, labelOf, itemOf, rows, Long, Coverable, Workable, Worked};
 use ledger::BLANK;
 use ledger::Coverage;
 use ledger::Entered;
@@ -60,11 +59,10 @@ pub fn enter(
     queue: Queue,
     entry: Entry,
 ) -> Entered
-    requires { ⌜ Long (now unpaid) (now amount) (now label) ⌝ }
-    requires { ⌜ Fit (rows (now unpaid) (now amount) (now label)) queue ⌝ }
-    requires { ⌜ queue .front + queue .count ≤ mostEnd ⌝ }
+    requires { ⌜ Workable (now unpaid) (now amount) (now label) queue ⌝ }
     requires { ⌜ EntryBounds entry ⌝ }
-    ensures { λ r. ⌜ Worked (rows (now (unpaid .entry)) (now (amount .entry)) (now (label .entry))) queue entry (rows (now (unpaid .exit)) (now (amount .exit)) (now (label .exit))) r ⌝ }
+    ensures { λ r. ⌜ Worked (rows (now (unpaid .entry)) (now (amount .entry)) (now (label .entry))) queue entry
+        (rows (now (unpaid .exit)) (now (amount .exit)) (now (label .exit))) r ⌝ }
     ensures { λ _. ⌜ Long (now (unpaid .exit)) (now (amount .exit)) (now (label .exit)) ⌝ }
 {
     let front = queue.front;
@@ -147,11 +145,7 @@ fn cover(
     day: u16,
     money: u64,
 ) -> Coverage
-    requires { ⌜ Long (now unpaid) (now amount) (now label) ⌝ }
-    requires { ⌜ front + count ≤ lanePlaces ⌝ }
-    requires { ⌜ count ≤ capacity ⌝ }
-    requires { ⌜ day ≤ lastCallDay ⌝ }
-    requires { ⌜ Every ItemBounds (take count (drop front (rows (now unpaid) (now amount) (now label)))) ⌝ }
+    requires { ⌜ Coverable (now unpaid) (now amount) (now label) front count day ⌝ }
     ensures { λ r. ⌜ r ≡ coverage day money (take count (drop front (rows (now (unpaid .entry)) (now (amount .entry)) (now (label .entry))))) ⌝ }
 {
     let mut left = money;
@@ -188,7 +182,9 @@ fn post_item(
     requires { ⌜ at < lanePlaces ⌝ }
     requires { ⌜ day ≤ lastCallDay ⌝ }
     ensures { λ r. ⌜ r ≡ at + places left ⌝ }
-    ensures { λ _. ⌜ ((front count : ℕ) → front + count ≡ at → take (count + places left) (drop front (rows (now (unpaid .exit)) (now (amount .exit)) (now (label .exit)))) ≡ take count (drop front (rows (now (unpaid .entry)) (now (amount .entry)) (now (label .entry)))) ++ posted kind day sum left) ⌝ }
+    ensures { λ _. ⌜ ((front count : ℕ) → front + count ≡ at
+        → take (count + places left) (drop front (rows (now (unpaid .exit)) (now (amount .exit)) (now (label .exit)))) ≡
+        take count (drop front (rows (now (unpaid .entry)) (now (amount .entry)) (now (label .entry)))) ++ posted kind day sum left) ⌝ }
     ensures { λ _. ⌜ Long (now (unpaid .exit)) (now (amount .exit)) (now (label .exit)) ⌝ }
 {
     if left == 0 {
@@ -208,7 +204,8 @@ fn move_back(
 )
     requires { ⌜ Long (now unpaid) (now amount) (now label) ⌝ }
     requires { ⌜ front + count ≤ lanePlaces ⌝ }
-    ensures { λ _. ⌜ take count (rows (now (unpaid .exit)) (now (amount .exit)) (now (label .exit))) ≡ take count (drop front (rows (now (unpaid .entry)) (now (amount .entry)) (now (label .entry)))) ⌝ }
+    ensures { λ _. ⌜ take count (rows (now (unpaid .exit)) (now (amount .exit)) (now (label .exit))) ≡
+        take count (drop front (rows (now (unpaid .entry)) (now (amount .entry)) (now (label .entry)))) ⌝ }
     ensures { λ _. ⌜ Long (now (unpaid .exit)) (now (amount .exit)) (now (label .exit)) ⌝ }
 {
     let mut i: usize = 0;
@@ -283,7 +280,8 @@ fn put(
 )
     requires { ⌜ Long (now unpaid) (now amount) (now label) ⌝ }
     requires { ⌜ at < lanePlaces ⌝ }
-    ensures { λ _. ⌜ rows (now (unpaid .exit)) (now (amount .exit)) (now (label .exit)) ≡ set (rows (now (unpaid .entry)) (now (amount .entry)) (now (label .entry))) at item ⌝ }
+    ensures { λ _. ⌜ rows (now (unpaid .exit)) (now (amount .exit)) (now (label .exit)) ≡
+        set (rows (now (unpaid .entry)) (now (amount .entry)) (now (label .entry))) at item ⌝ }
     ensures { λ _. ⌜ Long (now (unpaid .exit)) (now (amount .exit)) (now (label .exit)) ⌝ }
 {
     unpaid[at] = item.unpaid;

@@ -1,14 +1,8 @@
 -- What a ledger holds: what stands on it, and its bounds at each open item. Assumes nothing.
-use mathlib.Core.Path.{_≡_}
-use Prim.Native.Nat.{ℕ, _≤_, _<_}
-use native.Mathlib.Omega.{arith}
-use lib.ListN.{length, getD, take}
-use lib.Seq.{getD-take, length-take-le, take-all}
-use Rattle.lists.proofs.Every.{every-at}
-use Rattle.lists.proofs.Pad.{take-pad}
-use Rattle.ledger.specs.declared.Ledger.{Ledger}
-use Rattle.ledger.specs.Limits.{capacity}
+use Rattle.common.proofs.Words.{_≡_, ℕ, _≤_, _<_, arith, length, getD, take, getD-take, length-take-le, take-all}
+use Rattle.lists.proofs.{Every.every-at, Pad.take-pad}
 use Rattle.ledger.specs.Posting.{Standing, standing, stored, blank, ItemBounds, OpenBounds}
+use Rattle.ledger.specs.{declared.Ledger.Ledger, Limits.capacity}
 
 -- What is stored and fits is what stands.
 pub standing-stored : (s : Standing) → length (s .open-items) ≤ capacity → standing (stored s) ≡ s

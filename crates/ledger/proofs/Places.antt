@@ -1,26 +1,20 @@
 -- Stores among items that lie in a part of a longer list. Assumes nothing.
-use mathlib.Core.Path.{_≡_, refl, sym, ap, _∙_}
-use mathlib.Core.Logic.{⊎-elim}
-use mathlib.Core.Bool.{Bool, true, false, cond}
-use mathlib.Core.List.{List, [], _∷_, _++_, append-nil}
-use Prim.Native.Nat.{ℕ, zero, suc, _+_, _-_, _≤_, _<_}
-use native.Mathlib.Nat.{le-refl, add-zero, eq-zero-or-pos}
-use native.Mathlib.Numerals.{add-one}
-use native.Mathlib.Omega.{arith}
-use lib.Dec.{ltb}
-use lib.ListN.{length, getD, set, take, drop, length-set, length-drop}
-use lib.Seq.{drop-cons, drop-drop, drop-set-add, drop-set-lt, getD-set-same, take-set-le, take-suc-set}
-use borrow.Author.Tests.{lt-ltb}
+use Rattle.common.proofs.Words.{_≡_, refl, sym, ap, _∙_, List, _++_, append-nil, ℕ, zero, suc, _+_, _-_, _≤_, _<_, le-refl, add-zero}
+use Rattle.common.proofs.Words.{add-one, arith, ltb, length, getD, set, take, drop, length-set, length-drop, drop-cons, drop-drop}
+use Rattle.common.proofs.Words.{drop-set-lt, getD-set-same, getD-take, getD-drop, take-suc-set, lt-ltb}
+use lib.Seq.{drop-set-add, take-set-le}
+use Rattle.common.proofs.Cases.{by-test, cond-most}
 use Rattle.lists.proofs.Pad.{drop-take}
-use Rattle.ledger.specs.declared.Kind.{Kind}
-use Rattle.ledger.specs.declared.Item.{Item}
-use Rattle.ledger.specs.Settling.{reduced}
-use Rattle.ledger.specs.Posting.{blank}
-use Rattle.ledger.specs.Numbers.{lessPaid, made, places, posted}
+use Rattle.ledger.specs.{declared.Kind.Kind, declared.Item.Item, Settling.reduced, Posting.made, Posting.blank}
+use Rattle.ledger.specs.Numbers.{lessPaid, places, posted}
 
 -- The items of a queue, from the front and as many as are open.
 abbrev pub part : ℕ → ℕ → List Item → List Item
 part front count items = take count (drop front items)
+
+-- The item at a place of it.
+pub at-is : (items : List Item) (front count i : ℕ) → i < count → getD (part front count items) i blank ≡ getD items (front + i) blank
+at-is items front count i h = getD-take count (drop front items) i blank h ∙ getD-drop front items i blank
 
 -- A queue that starts k items later.
 pub part-later : (front count k : ℕ) (items : List Item) → part (front + k) (count - k) items ≡ drop k (part front count items)
@@ -44,19 +38,13 @@ pub part-behind : (kind : Kind) (day amount unpaid front count at : ℕ) (items 
     → part front (count + places unpaid) (set items at (made kind day amount unpaid)) ≡
     part front count items ++ posted kind day amount unpaid
 unfolding places posted
-part-behind kind day amount unpaid front count at items e h = go (ltb 0 unpaid)
-  where
-    item : Item
-    item = made kind day amount unpaid
-
-    room : count < length (drop front items)
-    room = rw (length-drop front items) (omega arith)
-
-    go : (b : Bool) → part front (count + cond b 1 0) (set items at item) ≡ part front count items ++ cond b (item ∷ []) []
-    go true = rw (← e, drop-set-add front items count item, add-one count) (take-suc-set (drop front items) count item room)
-    go false =
-        rw (← e, drop-set-add front items count item, add-zero count, append-nil (part front count items))
-        (take-set-le count (drop front items) count item (le-refl count))
+part-behind kind day amount unpaid front count at items e h =
+    let item = made kind day amount unpaid in
+    let rest = drop front items in
+    let room : count < length rest = rw (length-drop front items) (omega arith) in
+    rw (← e, drop-set-add front items count item)
+    (by-test (ltb 0 unpaid) (λ t. rw (t, add-one count) (take-suc-set rest count item room))
+    (λ t. rw (t, add-zero count, append-nil (part front count items)) (take-set-le count rest count item (le-refl count))))
 
 pub places-none : (unpaid : ℕ) → unpaid ≡ 0 → places unpaid ≡ 0
 unfolding places
@@ -64,8 +52,7 @@ places-none unpaid e = rw e
 
 pub places-some : (unpaid : ℕ) → (unpaid ≡ 0 → ⊥) → places unpaid ≡ 1
 unfolding places
-places-some unpaid some =
-    ⊎-elim (λ (e : unpaid ≡ 0). absurd (some e)) (λ (l : 0 < unpaid). rw (lt-ltb 0 unpaid l)) (eq-zero-or-pos unpaid)
+places-some unpaid some = rw (lt-ltb 0 unpaid (omega arith))
 
 pub part-none : (kind : Kind) (day amount unpaid front count : ℕ) (items : List Item) → unpaid ≡ 0
     → part front (count + places unpaid) items ≡ part front count items ++ posted kind day amount unpaid
@@ -74,16 +61,8 @@ part-none kind day amount unpaid front count items e = rw (e, add-zero count, ap
 
 pub length-posted : (kind : Kind) (day amount unpaid : ℕ) → length (posted kind day amount unpaid) ≡ places unpaid
 unfolding places posted
-length-posted kind day amount unpaid = go (ltb 0 unpaid)
-  where
-    go : (b : Bool) → length (cond b (made kind day amount unpaid ∷ []) []) ≡ cond b 1 0
-    go true = refl
-    go false = refl
+length-posted kind day amount unpaid = by-test (ltb 0 unpaid) (λ e. rw e) (λ e. rw e)
 
 pub places-most : (unpaid : ℕ) → places unpaid ≤ 1
 unfolding places
-places-most unpaid = go (ltb 0 unpaid)
-  where
-    go : (b : Bool) → cond b 1 0 ≤ 1
-    go true = omega arith
-    go false = omega arith
+places-most unpaid = cond-most (ltb 0 unpaid) 1

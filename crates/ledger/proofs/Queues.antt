@@ -1,35 +1,22 @@
 -- An entry worked on a queue where its items lie: what holds before it and after it. Assumes nothing.
-use mathlib.Core.Path.{_≡_, refl, sym, ap, _∙_, subst}
-use mathlib.Core.Bool.{cond}
-use mathlib.Core.List.{List, [], _∷_, _++_}
-use Prim.Native.Nat.{ℕ, suc, _+_, _-_, _*_, _≤_, _<_}
-use native.Mathlib.Omega.{arith}
-use lib.ListN.{length, getD, take, drop, length-append, length-drop}
-use lib.Seq.{length-take-le, getD-take, getD-drop, take-all, take-take}
-use borrow.Author.Tests.{eq-eqb, ne-eqb}
-use Rattle.lists.specs.Pad.{pad}
-use Rattle.lists.specs.Every.{Every}
+use Rattle.common.proofs.Words.{_≡_, refl, sym, ap, _∙_, subst, cond, List, [], _∷_, ℕ, suc, _+_, _-_, _*_, _≤_, _<_, arith, length, getD}
+use Rattle.common.proofs.Words.{take, drop, length-append, length-drop, length-take-le, take-all, take-take, eq-eqb, ne-eqb}
+use Rattle.lists.specs.{Pad.pad, Every.Every}
+use Rattle.common.proofs.Cases.{cond-most}
 use Rattle.lists.proofs.Every.{every-at}
-use Rattle.ledger.specs.declared.Kind.the-variants.{Interest, Price}
-use Rattle.ledger.specs.declared.Item.{Item}
-use Rattle.ledger.specs.declared.Ledger.{Ledger}
-use Rattle.ledger.specs.declared.Coverage.{Coverage}
-use Rattle.ledger.specs.declared.Entry.{Entry}
-use Rattle.ledger.specs.declared.Queue.{Queue}
-use Rattle.ledger.specs.declared.numbers.Settled.{Settled}
 use Rattle.ledger.specs.Limits.{lastCallDay, capacity, mostArisen, mostOwed, lanePlaces, mostEnd}
-use Rattle.ledger.specs.Interest.{interestOn}
-use Rattle.ledger.specs.Settling.{unpaidOf}
 use Rattle.ledger.specs.Posting.{Standing, coverage, blank, standing, stored, ItemBounds}
 use Rattle.ledger.specs.Entries.{asked, numberOf, next, interestPosted, EntryBounds, Within}
-use Rattle.ledger.specs.Numbers.{settledBy, NumberBounds, lessPaid, places, posted, itemsAfter, queueOf, queueIn, ledgerOf, lying, Lies, Fit}
-use Rattle.ledger.proofs.Interest.{interest-most}
+use Rattle.ledger.specs.Numbers.{settledBy, NumberBounds, lessPaid, places, posted, itemsAfter, queueOf, queueIn, ledgerOf, lying}
+use Rattle.ledger.specs.Numbers.{Lies, Fit}
+use Rattle.ledger.specs.{declared.Kind.the-variants.Interest, declared.Kind.the-variants.Price, declared.Item.Item}
+use Rattle.ledger.specs.{declared.Ledger.Ledger, declared.Coverage.Coverage, declared.Entry.Entry, declared.Queue.Queue}
+use Rattle.ledger.specs.{declared.numbers.Settled.Settled, Interest.interestOn, Settling.unpaidOf}
 use Rattle.ledger.proofs.Cover.{Covering, covering-next, covered-most, interest-within}
-use Rattle.ledger.proofs.Steps.{cond-most}
-use Rattle.ledger.proofs.Tallies.{money-short, paid-within}
 use Rattle.ledger.proofs.Entries.{taken-known, asked-known, queue-is, number-is}
+use Rattle.ledger.proofs.Places.{part, at-is, length-posted, places-most}
+use Rattle.ledger.proofs.{Interest.interest-most, Tallies.Asking, Tallies.money-short, Tallies.paid-within}
 use Rattle.ledger.proofs.Within.{owing, owed-most, number-passes}
-use Rattle.ledger.proofs.Places.{part, length-posted, places-most}
 
 pub part-count : {items : List Item} {q : Queue} → Lies items q → length (part (q .front) (q .count) items) ≡ q .count
 part-count {items} {q} w =
@@ -43,23 +30,12 @@ length-less : (paid : ℕ) (items : List Item) → length (lessPaid paid items) 
 length-less paid [] = refl
 length-less paid (item ∷ items) = refl
 
-items-count : (day : ℕ) (r : Settled) (rest : List Item)
-    → length (itemsAfter day r rest) ≡ length rest + places (r .heldleft) + places (r .chargeleft) + places (r .arisenleft)
-items-count day r rest =
-    let a = lessPaid (r .paid) rest in
-    let b = posted Interest day (r .held) (r .heldleft) in
-    let c = posted Price day (r .charge) (r .chargeleft) in
-    let d = posted Interest day (r .arisen) (r .arisenleft) in
-    omega (
-      arith,
-      length-append ((a ++ b) ++ c) d,
-      length-append (a ++ b) c,
-      length-append a b,
-      length-less (r .paid) rest,
-      length-posted Interest day (r .held) (r .heldleft),
-      length-posted Price day (r .charge) (r .chargeleft),
-      length-posted Interest day (r .arisen) (r .arisenleft),
-    )
+-- So many, with the places that what is posted takes up.
+abbrev pub withPosted : Settled → ℕ → ℕ
+withPosted r n = n + places (r .heldleft) + places (r .chargeleft) + places (r .arisenleft)
+
+items-count : (day : ℕ) (r : Settled) (rest : List Item) → length (itemsAfter day r rest) ≡ withPosted r (length rest)
+items-count day r rest = simp (length-append, length-less, length-posted) (omega arith)
 
 -- An entry at a queue that lies among items, and what its money covers of them.
 pub record Entering : Type 0 where
@@ -78,8 +54,8 @@ module _ (k : Entering) where
   abbrev pub stood : Standing
   stood = lying items q
 
-  owes : Every ItemBounds (stood .open-items)
-  owes = w .within .items-within
+  asking : Asking e stood cover
+  asking = record { owing = owing (stood .open-items) (w .within .items-within); covers = covers }
 
   pub covered-within : cover .covered ≤ q .count
   covered-within = rw covers (omega (arith, covered-most (e .day) (q .credit + e .money) (stood .open-items), part-count (w .lies)))
@@ -87,10 +63,12 @@ module _ (k : Entering) where
   -- what settling on numbers requires
   pub settle-bounds : NumberBounds q e cover
   settle-bounds =
+      let many = w .within .count-most in
+      let owes = w .within .items-within in
       record {
         front-most = omega (arith, room);
-        count-most = omega (arith, w .within .count-most, part-count (w .lies));
-        owed-most = omega (arith, w .lies .owed-is, owed-most (stood .open-items) owes, w .within .count-most);
+        count-most = omega (arith, many, part-count (w .lies));
+        owed-most = omega (arith, w .lies .owed-is, owed-most (stood .open-items) owes, many);
         held-most = w .within .held-most;
         credit-most = w .within .credit-most;
         money-most = b .money-most;
@@ -98,10 +76,8 @@ module _ (k : Entering) where
         covered-most = covered-within;
         arisen-most =
             let most = interest-within (e .day) (q .credit + e .money) (stood .open-items) (b .day-most) owes in
-            rw covers (omega (arith, most, w .within .count-most));
-        owed-least = λ l.
-            rw (w .lies .owed-is)
-            (money-short (e .day) (e .money) 0 stood (owing (stood .open-items) owes) cover covers (rw (part-count (w .lies)) l));
+            rw covers (omega (arith, most, many));
+        owed-least = λ l. rw (w .lies .owed-is) (money-short asking (rw (part-count (w .lies)) l));
       }
 
 -- And what is settled by it.
@@ -117,9 +93,6 @@ module _ (k : Settling) where
   abbrev s : Standing
   s = lying items q
 
-  abbrev paying : Every ItemBounds (s .open-items)
-  paying = w .within .items-within
-
   -- The oldest item that stays lies here; so many stay, and of the oldest that is paid.
   abbrev pub oldest : ℕ
   oldest = q .front + cover .covered
@@ -127,8 +100,11 @@ module _ (k : Settling) where
   abbrev pub staying : ℕ
   staying = q .count - cover .covered
 
+  abbrev rest : List Item
+  rest = drop (cover .covered) (s .open-items)
+
   abbrev pub stayed : List Item
-  stayed = lessPaid (r .paid) (drop (cover .covered) (s .open-items))
+  stayed = lessPaid (r .paid) rest
 
   -- and what is posted behind them
   abbrev pub held-item : List Item
@@ -140,62 +116,45 @@ module _ (k : Settling) where
   abbrev pub arisen-item : List Item
   arisen-item = posted Interest (e .day) (r .arisen) (r .arisenleft)
 
+  -- the numbers of the queue are those of what stands
+  settled-is : r ≡ settledBy (queueOf (q .front) s) e cover
+  settled-is = settles ∙ ap (λ (x : Queue). settledBy x e cover) (numbers-are (w .lies))
+
   pub number-of : r .number ≡ numberOf (asked e s)
-  number-of =
-      ap (λ (x : Settled). x .number) settles ∙
-      subst (λ (x : Queue). settledBy x e cover .number ≡ numberOf (asked e s)) (sym (numbers-are (w .lies)))
-      (number-is e s (owing (s .open-items) paying) (q .front) cover covers)
+  number-of = rw settled-is (number-is (asking (k .entering)) (q .front))
 
   queue-of : r .queue ≡ queueOf oldest (asked e s)
-  queue-of =
-      ap (λ (x : Settled). x .queue) settles ∙
-      subst (λ (x : Queue). settledBy x e cover .queue ≡ queueOf oldest (asked e s)) (sym (numbers-are (w .lies)))
-      (queue-is e s (owing (s .open-items) paying) (q .front) cover covers)
+  queue-of = rw settled-is (queue-is (asking (k .entering)) (q .front))
 
-  items-of : asked e s .open-items ≡ itemsAfter (e .day) r (drop (cover .covered) (s .open-items))
-  items-of =
-      subst (λ (x : Queue). asked e s .open-items ≡ itemsAfter (e .day) (settledBy x e cover) (drop (cover .covered) (s .open-items)))
-      (sym (numbers-are (w .lies))) (asked-known e s (owing (s .open-items) paying) (q .front) cover covers .items-are) ∙
-      sym (ap (λ (x : Settled). itemsAfter (e .day) x (drop (cover .covered) (s .open-items))) settles)
+  items-of : asked e s .open-items ≡ itemsAfter (e .day) r rest
+  items-of = rw settled-is (asked-known (asking (k .entering)) (q .front) .items-are)
 
   -- the oldest item that stays is paid no more than it owes
   pub oldest-within : r .paid ≤ getD items oldest blank .unpaid
-  oldest-within =
-      subst (λ (x : Settled). x .paid ≤ getD items oldest blank .unpaid) (sym settles)
-      (subst (λ (x : Queue). settledBy x e cover .paid ≤ getD items oldest blank .unpaid) (sym (numbers-are (w .lies)))
-      (unfold settledBy in
-      paid-within (e .day) (e .money) 0 s (owing (s .open-items) paying) cover covers (getD items oldest blank .unpaid) same))
+  unfolding settledBy
+  oldest-within = rw settled-is (paid-within (asking (k .entering)) (getD items oldest blank .unpaid) same)
     where
       same : cover .covered < length (s .open-items) → getD items oldest blank .unpaid ≡ getD (s .open-items) (cover .covered) blank .unpaid
-      same l =
-          rw (
-            getD-take (q .count) (drop (q .front) items) (cover .covered) blank (rw (part-count (w .lies)) at l),
-            getD-drop (q .front) items (cover .covered) blank,
-          )
+      same l = rw (at-is items (q .front) (q .count) (cover .covered) (rw (part-count (w .lies)) at l))
 
   -- how many items are open behind it
-  count-after : length (asked e s .open-items) ≡ staying + places (r .heldleft) + places (r .chargeleft) + places (r .arisenleft)
+  count-after : length (asked e s .open-items) ≡ withPosted r staying
   count-after =
-      let many = items-count (e .day) r (drop (cover .covered) (s .open-items)) in
+      let many = items-count (e .day) r rest in
       omega (arith, ap length items-of, many, length-drop (cover .covered) (s .open-items), part-count (w .lies))
 
   -- the place behind the last item
-  pub end-is :
-      r .queue .front + r .queue .count ≡ q .front + q .count + places (r .heldleft) + places (r .chargeleft) + places (r .arisenleft)
+  pub end-is : r .queue .front + r .queue .count ≡ withPosted r (q .front + q .count)
   end-is = rw queue-of (omega (arith, count-after, covered-within (k .entering)))
 
   -- One law: where the items of an array are those that the numbers say, they are those of the definition.
   abbrev pub After : List Item → Type 0
-  After xs =
-      part oldest (staying + places (r .heldleft) + places (r .chargeleft) + places (r .arisenleft)) xs ≡
-      itemsAfter (e .day) r (drop (cover .covered) (s .open-items))
+  After xs = part oldest (withPosted r staying) xs ≡ itemsAfter (e .day) r rest
 
   pub after-stands : (xs : List Item) → After xs → lying xs (r .queue) ≡ asked e s
   after-stands xs is =
+      let same = rw (← count-after) at is ∙ sym items-of in
       rw queue-of (λ i. record { open-items = same i; credit = asked e s .credit; held = asked e s .held })
-    where
-      same : part oldest (length (asked e s .open-items)) xs ≡ asked e s .open-items
-      same = rw count-after is ∙ sym items-of
 
   -- and the queue lies among them
   pub after-lies : (xs : List Item) → length xs ≡ lanePlaces → After xs → Lies xs (r .queue)
@@ -217,10 +176,7 @@ module _ (k : Settling) where
 
   pub interest-is : interest ≡ interestPosted e s
   unfolding settledBy
-  interest-is =
-      ap (λ (x : Settled). x .held + x .arisen) settles ∙
-      ap (λ n. cond (e .closes) (q .held) 0 + cond (e .posts) n 0)
-      (sym (taken-known e s (owing (s .open-items) paying) (q .front) cover covers .held-is))
+  interest-is = rw (settles, taken-known (asking (k .entering)) (q .front) .held-is)
 
   pub interest-fits : interest ≤ mostOwed
   unfolding settledBy
@@ -241,37 +197,43 @@ gathered-is {items} {q} w few =
     rw (take-all capacity (part (q .front) (q .count) items) (omega (arith, few, part-count w)), part-count w)
 
 -- What follows an entry that is accepted, and one that is refused.
-pub next-asked : (e : Entry) (s : Standing) → numberOf (asked e s) ≡ 0 → next e s ≡ asked e s
-next-asked e s z = rw (eq-eqb (numberOf (asked e s)) 0 z)
+module _ (e : Entry) (s : Standing) where
+  pub next-asked : numberOf (asked e s) ≡ 0 → next e s ≡ asked e s
+  next-asked z = rw (eq-eqb (numberOf (asked e s)) 0 z)
 
-pub next-same : (e : Entry) (s : Standing) → (numberOf (asked e s) ≡ 0 → ⊥) → next e s ≡ s
-next-same e s z = rw (ne-eqb (numberOf (asked e s)) 0 z)
+  pub next-same : (numberOf (asked e s) ≡ 0 → ⊥) → next e s ≡ s
+  next-same z = rw (ne-eqb (numberOf (asked e s)) 0 z)
 
--- What holds while money covers items.
+-- What holds while money covers items: of the items, and of the walk over them.
+pub record Lain (items : List Item) (front count day : ℕ) : Type 0 where
+  pub long : length (part front count items) ≡ count
+  pub day-most : day ≤ lastCallDay
+  pub bounds : Every ItemBounds (part front count items)
+
 pub record Covered (items : List Item) (day money left arisen i : ℕ) : Type 0 where
   pub interest : arisen ≤ i * mostArisen
   pub covering : Covering items day money left arisen i
 
-pub at-is : (items : List Item) (front count i : ℕ) → i < count
-    → getD (part front count items) i blank ≡ getD items (front + i) blank
-at-is items front count i h = getD-take count (drop front items) i blank h ∙ getD-drop front items i blank
+module _ {items : List Item} {front count day : ℕ} (lain : Lain items front count day) (i : ℕ) (h : i < count) where
+  abbrev item : Item
+  item = getD items (front + i) blank
 
--- The next item is covered.
-pub covered-on : (items : List Item) (day money left arisen i front count : ℕ) → day ≤ lastCallDay → Every ItemBounds (part front count items)
-    → length (part front count items) ≡ count → i < count
-    → Covered (part front count items) day money left arisen i → getD items (front + i) blank .unpaid ≤ left
-    → let item = getD items (front + i) blank in
-    Covered (part front count items) day money (left - item .unpaid) (arisen + interestOn item day) (suc i)
-covered-on items day money left arisen i front count d bounds long h w covers =
-    rw (← at-is items front count i h)
-    (record {
-      interest =
-          let price-most = every-at ItemBounds (part front count items) i blank (rw long h) bounds .price-most in
-          omega (arith, w .interest, interest-most (getD (part front count items) i blank) day price-most d);
-      covering =
-          covering-next (part front count items) day money left arisen i (w .covering) (rw long h)
-          (rw (at-is items front count i h) covers);
-    })
+  pub item-within : ItemBounds item
+  item-within =
+      rw (at-is items front count i h) at (every-at ItemBounds (part front count items) i blank (rw (lain .long) h) (lain .bounds))
+
+  pub item-interest : interestOn item day ≤ mostArisen
+  item-interest = interest-most item day (item-within .price-most) (lain .day-most)
+
+  -- the next item is covered
+  pub covered-on : {money left arisen : ℕ} → Covered (part front count items) day money left arisen i → item .unpaid ≤ left
+      → Covered (part front count items) day money (left - item .unpaid) (arisen + interestOn item day) (suc i)
+  covered-on w covers =
+      let is = at-is items front count i h in
+      record {
+        interest = omega (arith, w .interest, item-interest);
+        covering = rw is at (covering-next (w .covering) (rw (lain .long) h) (rw is covers));
+      }
 
 -- The same items at the front of any array.
 module _ {items : List Item} {q : Queue} (w : Lies items q) (front : List Item)

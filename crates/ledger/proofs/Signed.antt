@@ -1,15 +1,6 @@
 -- A net by its sign. Assumes nothing.
-use mathlib.Core.Path.{_≡_, refl, ap}
-use mathlib.Core.Bool.{true, false, true≢false}
-use Prim.Native.Nat.{suc, _≤_}
-use native.Mathlib.Nat.{not-suc-le-zero, zero-add}
-use native.Mathlib.Omega.{arith}
-use lib.Dec.{T}
-use lib.IntN.{ℤ, pos, negsuc, natAbs, _-ℤ_}
-use lib.Signed.{ltZ, nonNeg}
-use mir.Syntax.{w32}
-use mir.Val.{SFits}
-use borrow.Author.Tests.{ltb-true}
+use Rattle.common.proofs.Words.{_≡_, refl, ap, true, false, true≢false, suc, _≤_, not-suc-le-zero, zero-add, arith, T, ℤ, pos, negsuc}
+use Rattle.common.proofs.Words.{natAbs, _-ℤ_, ltZ, nonNeg, w32, SFits, ltb-true}
 use Rattle.ledger.specs.Posting.{chargeOf, creditOf}
 
 pub charge-negative : (net : ℤ) → ltZ net (pos 0) ≡ true → chargeOf net ≡ 0

@@ -1,20 +1,10 @@
 -- What keeps an entry's numbers within their bounds. Assumes nothing.
-use mathlib.Core.Path.{_≡_, refl}
-use mathlib.Core.Bool.{Bool, true, false, cond}
-use mathlib.Core.List.{List, [], _∷_}
-use Prim.Native.Nat.{ℕ, _*_, _≤_}
-use native.Mathlib.Nat.{suc-mul, suc-ne-zero}
-use native.Mathlib.Omega.{arith}
-use lib.Dec.{leb}
-use lib.ListN.{length}
-use borrow.Author.Tests.{leb-true}
+use Rattle.common.proofs.Words.{_≡_, List, [], _∷_, ℕ, _*_, _≤_, suc-mul, suc-ne-zero, arith, length, le-leb, lt-leb}
 use Rattle.lists.specs.Every.{Every}
+use Rattle.common.proofs.Cases.{by-order}
 use Rattle.lists.proofs.Every.{every-map}
-use Rattle.ledger.specs.declared.Item.{Item}
-use Rattle.ledger.specs.Limits.{capacity, mostInterest, mostCredit}
-use Rattle.ledger.specs.Settling.{unpaidOf}
-use Rattle.ledger.specs.Posting.{ItemBounds}
-use Rattle.ledger.specs.Entries.{limitNumber}
+use Rattle.ledger.specs.{declared.Item.Item, Limits.capacity, Limits.mostInterest, Limits.mostCredit, Settling.unpaidOf}
+use Rattle.ledger.specs.{Posting.ItemBounds, Entries.limitNumber}
 use Rattle.ledger.proofs.Posting.{Owing}
 
 pub owing : (items : List Item) → Every ItemBounds items → Owing items
@@ -29,10 +19,9 @@ pub record Passes (count credit : ℕ) : Type 0 where
   pub credit-most : credit ≤ mostCredit
 
 pub number-passes : (count credit : ℕ) → limitNumber count credit ≡ 0 → Passes count credit
-number-passes count credit e = go (leb count capacity) refl (leb credit mostCredit) refl e
-  where
-    go : (b : Bool) → leb count capacity ≡ b → (d : Bool) → leb credit mostCredit ≡ d
-        → _≡_ {A = ℕ} (cond b (cond d 0 13) 12) 0 → Passes count credit
-    go true f true g z = record { count-most = leb-true count capacity f; credit-most = leb-true credit mostCredit g }
-    go true f false g z = absurd (suc-ne-zero 12 z)
-    go false f d g z = absurd (suc-ne-zero 11 z)
+number-passes count credit e =
+    by-order capacity count (λ l. absurd (suc-ne-zero 11 (rw (lt-leb count capacity l) at e)))
+    (λ few.
+    by-order mostCredit credit
+    (λ l. absurd (suc-ne-zero 12 (rw (le-leb count capacity few, lt-leb credit mostCredit l) at e)))
+    (λ small. record { count-most = few; credit-most = small }))

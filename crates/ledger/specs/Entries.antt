@@ -1,17 +1,12 @@
 -- What a call asks of the ledger, in one entry: money that comes in, and what a closing posts.
-use mathlib.Core.Path.{_≡_}
-use mathlib.Core.Bool.{cond}
-use mathlib.Core.List.{_++_}
+use mathlib.Core.{Path._≡_, Bool.cond, List._++_}
 use Prim.Native.Nat.{ℕ, _+_, _≤_}
-use lib.Dec.{leb, eqb}
-use lib.ListN.{length}
+use lib.{Dec.leb, Dec.eqb, ListN.length}
 use Rattle.lists.specs.Every.{Every}
-use Rattle.ledger.specs.declared.Kind.the-variants.{Interest, Price}
-use Rattle.ledger.specs.declared.Entry.{Entry}
-use Rattle.ledger.specs.declared.Posted.{Posted}
 use Rattle.ledger.specs.Limits.{lastCallDay, capacity, mostPrice, mostInterest, mostMoney, mostCredit}
-use Rattle.ledger.specs.Settling.{unpaidOf}
 use Rattle.ledger.specs.Posting.{Standing, entered, post, noneHeld, paid, heldPosted, stored, ItemBounds}
+use Rattle.ledger.specs.{declared.Kind.the-variants.Interest, declared.Kind.the-variants.Price, declared.Entry.Entry}
+use Rattle.ledger.specs.{declared.Posted.Posted, Settling.unpaidOf}
 
 -- A closing first posts interest held, if any, as an item, then a charge as a price item. Money, a payment or a net below zero, settles the oldest item first.
 unfoldable pub taken : Entry → Standing → Standing

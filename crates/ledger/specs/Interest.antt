@@ -2,8 +2,7 @@
 use mathlib.Core.Bool.{Bool, true, false, cond, _&&_}
 use Prim.Native.Nat.{ℕ, _-_, _*_, _/_}
 use lib.Dec.{ltb}
-use Rattle.ledger.specs.declared.Kind.{Kind}
-use Rattle.ledger.specs.declared.Kind.the-variants.{Interest, Price}
+use Rattle.ledger.specs.{declared.Kind.Kind, declared.Kind.the-variants.Interest, declared.Kind.the-variants.Price}
 use Rattle.ledger.specs.declared.Item.{Item}
 
 abbrev pub isPrice : Kind → Bool

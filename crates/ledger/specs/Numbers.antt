@@ -1,23 +1,13 @@
 -- An entry worked on numbers alone: how many items are open, what is unpaid of them, the credit and interest held.
-use mathlib.Core.Path.{_≡_}
-use mathlib.Core.Bool.{cond}
 use mathlib.Core.List.{List, [], _∷_, _++_}
+use mathlib.Core.{Path._≡_, Bool.cond}
 use Prim.Native.Nat.{ℕ, _+_, _-_, _*_, _≤_, _<_}
-use lib.Dec.{leb, ltb, eqb}
-use lib.ListN.{length, take, drop}
-use Rattle.ledger.specs.declared.Kind.{Kind}
-use Rattle.ledger.specs.declared.Kind.the-variants.{Interest, Price}
-use Rattle.ledger.specs.declared.Item.{Item}
-use Rattle.ledger.specs.declared.Ledger.{Ledger}
-use Rattle.ledger.specs.declared.Coverage.{Coverage}
-use Rattle.ledger.specs.Settling.{reduced, unpaidOf}
-use Rattle.ledger.specs.Posting.{Standing, standing, dueDay}
-use Rattle.ledger.specs.declared.Entry.{Entry}
-use Rattle.ledger.specs.declared.Queue.{Queue}
-use Rattle.ledger.specs.declared.numbers.Tally.{Tally}
-use Rattle.ledger.specs.declared.numbers.Step.{Step}
-use Rattle.ledger.specs.declared.numbers.Settled.{Settled}
+use lib.{Dec.leb, Dec.ltb, Dec.eqb, ListN.length, ListN.take, ListN.drop}
 use Rattle.ledger.specs.Limits.{capacity, mostPrice, mostInterest, mostMoney, mostCredit, lanePlaces}
+use Rattle.ledger.specs.{declared.Kind.Kind, declared.Kind.the-variants.Interest, declared.Kind.the-variants.Price}
+use Rattle.ledger.specs.{declared.Item.Item, declared.Ledger.Ledger, declared.Coverage.Coverage, Settling.reduced, Settling.unpaidOf}
+use Rattle.ledger.specs.{Posting.Standing, Posting.made, Posting.standing, declared.Entry.Entry, declared.Queue.Queue}
+use Rattle.ledger.specs.{declared.numbers.Tally.Tally, declared.numbers.Step.Step, declared.numbers.Settled.Settled}
 use Rattle.ledger.specs.Entries.{limitNumber, Within}
 
 -- An amount is posted: what is over is credit, used in the same call as items are posted. What it does not cover is one more open item.
@@ -101,9 +91,6 @@ module _ (q : Queue) (e : Entry) (cover : Coverage) where
 abbrev pub lessPaid : ℕ → List Item → List Item
 lessPaid part [] = []
 lessPaid part (item ∷ items) = reduced item part ∷ items
-
-abbrev pub made : Kind → ℕ → ℕ → ℕ → Item
-made kind day amount unpaid = record { amount = amount; unpaid = unpaid; obligation = day; due = dueDay day; kind = kind }
 
 unfoldable pub places : ℕ → ℕ
 places unpaid = cond (ltb 0 unpaid) 1 0

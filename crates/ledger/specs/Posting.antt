@@ -28,9 +28,12 @@ pub record Standing : Type 0 where
 abbrev pub dueDay : ℕ → ℕ
 dueDay day = day + 30
 
--- An item of a day, all of it unpaid.
+-- An item of a day, with what is unpaid of it; a new one, all of it.
+abbrev pub made : Kind → ℕ → ℕ → ℕ → Item
+made kind day amount unpaid = record { amount = amount; unpaid = unpaid; obligation = day; due = dueDay day; kind = kind }
+
 abbrev pub newItem : Kind → ℕ → ℕ → Item
-newItem kind day amount = record { amount = amount; unpaid = amount; obligation = day; due = dueDay day; kind = kind }
+newItem kind day amount = made kind day amount amount
 
 -- An amount above zero is posted as an item.
 unfoldable pub entered : Kind → ℕ → ℕ → List Item

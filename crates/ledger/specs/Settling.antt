@@ -1,12 +1,9 @@
 -- Settling, the oldest item first: article 28.
-use mathlib.Core.Bool.{cond}
-use mathlib.Core.List.{List, [], _∷_}
+use mathlib.Core.{Bool.cond, List.List, List.[], List._∷_}
 use Prim.Native.Nat.{ℕ, _+_, _-_}
-use lib.Dec.{leb}
-use lib.ListN.{length}
+use lib.{Dec.leb, ListN.length}
 use Rattle.lists.specs.Sum.{total}
-use Rattle.ledger.specs.declared.Item.{Item}
-use Rattle.ledger.specs.Interest.{interestOn}
+use Rattle.ledger.specs.{declared.Item.Item, Interest.interestOn}
 
 -- What settling comes to: the money left, the items still open and the interest that arose.
 pub record Settlement : Type 0 where
@@ -21,7 +18,8 @@ reduced item money =
 abbrev pub withInterest : ℕ → Settlement → Settlement
 withInterest interest s = record { left = s .left; open-items = s .open-items; arisen = interest + s .arisen }
 
--- An item that the money covers is settled on this day, with its interest, and the rest of the money goes on to the next; the first that it does not cover is paid in part.
+-- An item that the money covers is settled on this day, with its interest, and the rest of the money goes on to the next; the first
+-- that it does not cover is paid in part.
 abbrev pub settle : ℕ → ℕ → List Item → Settlement
 settle day money [] = record { left = money; open-items = []; arisen = 0 }
 settle day money (item ∷ items) =

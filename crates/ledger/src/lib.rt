@@ -5,9 +5,9 @@ ghost use mathlib.Core.List.{[]};
 ghost use Prim.Native.Nat.{_≤_};
 ghost use Rattle.ledger.specs.Interest.{isPrice, body, interestOn};
 ghost use Rattle.ledger.specs.Settling.{unpaidOf};
-ghost use Rattle.ledger.specs.Posting.{stored, standing, chargeOf, creditOf, OpenBounds, NetBounds};
+ghost use Rattle.ledger.specs.Posting.{made, stored, standing, chargeOf, creditOf, OpenBounds, NetBounds};
 ghost use Rattle.ledger.specs.Limits.{lastCallDay, mostPrice};
-ghost use Rattle.ledger.specs.Numbers.{queueIn, ledgerOf, made};
+ghost use Rattle.ledger.specs.Numbers.{queueIn, ledgerOf};
 
 pub mod limits;
 pub mod numbers;
@@ -170,14 +170,6 @@ pub fn credit_of(net: i32) -> u64
     if net < 0 { (0 - net) as u64 } else { 0 }
 }
 
-// The amount of a price without the tax in it: 27(2).
-fn body_of(amount: u64) -> u64
-    requires { ⌜ amount ≤ mostPrice ⌝ }
-    ensures { λ r. ⌜ r ≡ body amount ⌝ }
-{
-    amount - amount * 8 / 108
-}
-
 // The interest of an item that is settled on a day: 27.
 pub fn interest_on(item: Item, day: u16) -> u64
     requires { ⌜ (isPrice (item .kind) ≡ true → item .amount ≤ mostPrice) ⌝ }
@@ -197,4 +189,12 @@ pub fn interest_on(item: Item, day: u16) -> u64
             body_of(item.amount) * late * 274 / 1_000_000
         }
     }
+}
+
+// The amount of a price without the tax in it: 27(2).
+fn body_of(amount: u64) -> u64
+    requires { ⌜ amount ≤ mostPrice ⌝ }
+    ensures { λ r. ⌜ r ≡ body amount ⌝ }
+{
+    amount - amount * 8 / 108
 }

@@ -1,17 +1,13 @@
 -- An input that comes in pieces: what is kept between them, and what a piece makes of it.
-use mathlib.Core.Bool.{cond}
 use mathlib.Core.List.{List, [], _∷_, _++_}
+use mathlib.Core.Bool.{cond}
 use Prim.Native.Nat.{ℕ, suc, _-_}
-use lib.Dec.{eqb, ltb}
 use lib.ListN.{length, set, take, replicate}
-use Rattle.account.specs.declared.Account.{Account}
-use Rattle.account.specs.declared.Outcome.{Outcome}
-use Rattle.account.specs.Calls.{newAccount}
+use lib.Dec.{eqb, ltb}
+use Rattle.account.specs.{declared.Account.Account, declared.Outcome.Outcome, Calls.newAccount}
 use Rattle.frames.specs.Digits.{lineFeed}
 use Rattle.answers.specs.Answers.{answerLine, longestAnswer}
-use Rattle.lines.specs.declared.State.{State}
-use Rattle.lines.specs.declared.Fed.{Fed}
-use Rattle.lines.specs.Line.{lineOutcome}
+use Rattle.lines.specs.{declared.State.State, declared.Fed.Fed, Line.lineOutcome}
 
 -- The longest frame is 30 characters; of a longer line the first 31 are kept, enough to know that it is none.
 abbrev pub keptMost : ℕ
@@ -58,7 +54,8 @@ unfoldable pub feeding : ℕ → State → List ℕ → Feeding
 feeding room s [] = nothing s
 feeding room s (c ∷ cs) =
     cond (eqb c lineFeed)
-    (cond (ltb room longestAnswer) (nothing s) (behind (answerLine (lineEnds s .answer)) (feeding (room - length (answerLine (lineEnds s .answer))) (ended s) cs)))
+    (cond (ltb room longestAnswer) (nothing s)
+    (behind (answerLine (lineEnds s .answer)) (feeding (room - length (answerLine (lineEnds s .answer))) (ended s) cs)))
     (behind [] (feeding room (kept s c) cs))
 
 abbrev pub fedOf : Feeding → Fed

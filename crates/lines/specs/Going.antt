@@ -1,20 +1,12 @@
 -- A feeding under way, line by line.
-use mathlib.Core.Path.{_≡_}
-use mathlib.Core.Bool.{true, false}
-use mathlib.Core.List.{List, _++_}
+use mathlib.Core.{Path._≡_, Bool.true, Bool.false, List.List, List._++_}
 use Prim.Native.Nat.{ℕ, _+_, _-_, _≤_, _<_}
 use lib.ListN.{length, getD, drop}
-use Rattle.account.specs.declared.Account.{Account}
-use Rattle.account.specs.declared.Outcome.{Outcome}
-use Rattle.frames.specs.declared.Fields.{Fields}
-use Rattle.frames.specs.Numbers.{parsedBy, noFields, SmallIn}
-use Rattle.frames.specs.Digits.{lineFeed}
+use Rattle.account.specs.{declared.Account.Account, declared.Outcome.Outcome}
+use Rattle.frames.specs.{declared.Fields.Fields, Numbers.parsedBy, Numbers.noFields, Numbers.SmallIn, Digits.lineFeed, Digits.ValueTable}
 use Rattle.answers.specs.Answers.{answerLine, longestAnswer}
-use Rattle.lines.specs.declared.State.{State}
-use Rattle.lines.specs.declared.Kept.{Kept}
-use Rattle.lines.specs.declared.Next.{Next}
-use Rattle.lines.specs.Line.{parsedOutcome}
 use Rattle.lines.specs.Feeding.{keptMost, blankLine, between, Feeding, nothing, feeding}
+use Rattle.lines.specs.{declared.State.State, declared.Kept.Kept, declared.Next.Next, Line.parsedOutcome}
 
 abbrev pub state : Account → ℕ → List ℕ → State
 state account long line = record { account = account; length = long; line = line }
@@ -38,6 +30,13 @@ abbrev pub fedBehind : List ℕ → ℕ → ℕ → Outcome → Feeding
 fedBehind input taken room o =
     writing (answerLine (o .answer)) (fedFrom input taken (room - length (answerLine (o .answer))) (between (o .account)))
 
+-- What the next line is looked for with: an input that goes on, the table, and a line kept so far that is blank where none has begun.
+pub record Seeking (input values : List ℕ) (from : ℕ) (line : List ℕ) (begun : ℕ) : Type 0 where
+  pub more : from < length input
+  pub table : ValueTable values
+  pub long : length line ≡ keptMost
+  pub blank : begun ≡ 0 → line ≡ blankLine
+
 -- Where a line's characters end.
 pub record Keeps (input : List ℕ) (from begun : ℕ) (line kept : List ℕ) (r : Kept) : Type 0 where
   pub onward : from ≤ r .taken
@@ -45,7 +44,8 @@ pub record Keeps (input : List ℕ) (from begun : ℕ) (line kept : List ℕ) (r
   pub ends : r .taken < length input → getD input (r .taken) 0 ≡ lineFeed
   pub long : length kept ≡ keptMost
   pub none : r .length ≡ 0 → (begun ≡ 0) × (kept ≡ line)
-  pub leads : (a : Account) (room : ℕ) → Leads from (r .taken) (fedFrom input from room (state a begun line)) (fedFrom input (r .taken) room (state a (r .length) kept))
+  pub leads : (a : Account) (room : ℕ)
+      → Leads from (r .taken) (fedFrom input from room (state a begun line)) (fedFrom input (r .taken) room (state a (r .length) kept))
 
 -- A line that ended: there is room for its answer, and what it comes to is what its frame's call comes to, or 40.
 pub record Ends (input : List ℕ) (from room begun : ℕ) (line kept : List ℕ) (r : Next) : Type 0 where
@@ -54,14 +54,16 @@ pub record Ends (input : List ℕ) (from room begun : ℕ) (line kept : List ℕ
   pub none-begun : r .length ≡ 0
   pub blank : kept ≡ blankLine
   pub small : SmallIn (r .fields)
-  pub leads : (a : Account) → Leads from (r .taken) (fedFrom input from room (state a begun line)) (fedBehind input (r .taken) room (parsedOutcome a (parsedBy (r .fields))))
+  pub leads : (a : Account)
+      → Leads from (r .taken) (fedFrom input from room (state a begun line)) (fedBehind input (r .taken) room (parsedOutcome a (parsedBy (r .fields))))
 
 -- The next line.
 pub record Found (input : List ℕ) (from room begun : ℕ) (line kept : List ℕ) (r : Next) : Type 0 where
   pub within : r .taken ≤ length input
   pub long : length kept ≡ keptMost
   pub ended : r .ended ≡ true → Ends input from room begun line kept r
-  pub waits : r .ended ≡ false → (a : Account) → Leads from (r .taken) (fedFrom input from room (state a begun line)) (nothing (state a (r .length) kept))
+  pub waits : r .ended ≡ false → (a : Account)
+      → Leads from (r .taken) (fedFrom input from room (state a begun line)) (nothing (state a (r .length) kept))
   pub clear : r .length ≡ 0 → kept ≡ blankLine
 
 abbrev pub endedAt : Fields → ℕ → Next

@@ -1,12 +1,8 @@
 -- What a line comes to.
 use mathlib.Core.List.{List}
 use Prim.Native.Nat.{ℕ}
-use Rattle.account.specs.declared.Account.{Account}
-use Rattle.account.specs.declared.Outcome.{Outcome}
-use Rattle.account.specs.Outcomes.{outcome, declined}
-use Rattle.frames.specs.declared.Parsed.{Parsed}
-use Rattle.frames.specs.declared.Parsed.the-variants.{Frame, NotAFrame}
-use Rattle.frames.specs.Frames.{parsed}
+use Rattle.account.specs.{declared.Account.Account, declared.Outcome.Outcome, Outcomes.outcome, Outcomes.declined}
+use Rattle.frames.specs.{declared.Parsed.Parsed, declared.Parsed.the-variants.Frame, declared.Parsed.the-variants.NotAFrame, Frames.parsed}
 
 -- Number 40: not a frame, wrong length, other characters, empty line. It comes before 41.
 abbrev pub parsedOutcome : Account → Parsed → Outcome

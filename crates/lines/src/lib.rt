@@ -1,11 +1,10 @@
 // The next line of a household's file that comes in pieces: a frame where it lies, and else its characters as they come.
 ghost use mathlib.Core.Path.{_≡_};
 ghost use mathlib.Core.Bool.{true, false};
-ghost use Prim.Native.Nat.{_+_, min, _≤_, _<_};
+ghost use Prim.Native.Nat.{_+_, min, _≤_};
 ghost use lib.ListN.{length};
-ghost use Rattle.frames.specs.Digits.{ValueTable};
 ghost use Rattle.lines.specs.Feeding.{keptMost, blankLine, fresh};
-ghost use Rattle.lines.specs.Going.{Keeps, Found, waitingAt};
+ghost use Rattle.lines.specs.Going.{Seeking, Keeps, Found, waitingAt};
 use account::Account;
 use frames::Fields;
 
@@ -53,10 +52,7 @@ pub fn next_line(
     begun: usize,
     room: usize,
 ) -> Next
-    requires { ⌜ from < length (now input) ⌝ }
-    requires { ⌜ ValueTable (now values) ⌝ }
-    requires { ⌜ length (now line) ≡ keptMost ⌝ }
-    requires { ⌜ (begun ≡ 0 → now line ≡ blankLine) ⌝ }
+    requires { ⌜ Seeking (now input) (now values) from (now line) begun ⌝ }
     ensures { λ r. ⌜ Found (now (input .entry)) from room begun (now (line .entry)) (now (line .exit)) r ⌝ }
 {
     if begun == 0 {
@@ -85,10 +81,7 @@ fn kept_line(
     begun: usize,
     room: usize,
 ) -> Next
-    requires { ⌜ from < length (now input) ⌝ }
-    requires { ⌜ ValueTable (now values) ⌝ }
-    requires { ⌜ length (now line) ≡ keptMost ⌝ }
-    requires { ⌜ (begun ≡ 0 → now line ≡ blankLine) ⌝ }
+    requires { ⌜ Seeking (now input) (now values) from (now line) begun ⌝ }
     ensures { λ r. ⌜ Found (now (input .entry)) from room begun (now (line .entry)) (now (line .exit)) r ⌝ }
 {
     let kept = keep_characters(input, from, line, begun);
@@ -164,7 +157,7 @@ fn clear(line: &mut [u8])
 
 // The characters kept of a line.
 fn shown_length(count: usize) -> usize
-    ensures { λ r. ⌜ r ≡ min count 31 ⌝ }
+    ensures { λ r. ⌜ r ≡ min count keptMost ⌝ }
 {
     if count < 31 { count } else { 31 }
 }

@@ -1,13 +1,10 @@
 -- What holds of every element of a list. Assumes nothing.
-use mathlib.Core.Path.{_≡_, refl, sym}
-use mathlib.Core.Bool.{Bool, true, false, _&&_, and-eq-true-iff, and-true, and-assoc, false≢true}
-use mathlib.Core.List.{List, [], _∷_, _++_, reverse, reverse-cons}
-use Prim.Native.Nat.{ℕ, zero, suc, _-_, _<_}
-use native.Mathlib.Nat.{not-suc-le-zero, le-of-suc-le-suc, suc-inj}
-use native.Mathlib.Omega.{arith}
-use lib.ListN.{length, getD, take, replicate}
-use Rattle.lists.specs.Pad.{pad}
-use Rattle.lists.specs.Every.{every, Every, same}
+use Rattle.common.proofs.Words.{_≡_, refl, sym, Bool, true, _&&_, and-eq-true-iff, and-true, List, [], _∷_, _++_, reverse}
+use Rattle.common.proofs.Words.{reverse-cons, ℕ, zero, suc, _-_, _<_, not-suc-le-zero, le-of-suc-le-suc, arith, length, getD, take}
+use Rattle.common.proofs.Words.{length-take, replicate, getD-take}
+use mathlib.Core.Bool.{and-assoc}
+use native.Mathlib.Nat.{suc-inj}
+use Rattle.lists.specs.{Pad.pad, Every.every, Every.Every, Every.same}
 
 module _ {A : Type 0} (P : A → Type 0) where
   pub every-append : (xs ys : List A) → Every P xs → Every P ys → Every P (xs ++ ys)
@@ -20,10 +17,7 @@ module _ {A : Type 0} (P : A → Type 0) where
   every-at (x ∷ xs) (suc i) d h e = every-at xs i d (le-of-suc-le-suc h) (e .1)
 
   pub every-in-front : (xs : List A) (n i : ℕ) (d : A) → i < n → i < length xs → Every P (take n xs) → P (getD xs i d)
-  every-in-front [] n i d l h e = absurd (not-suc-le-zero h)
-  every-in-front (x ∷ xs) zero i d l h e = absurd (not-suc-le-zero l)
-  every-in-front (x ∷ xs) (suc n) zero d l h e = e .0
-  every-in-front (x ∷ xs) (suc n) (suc i) d l h e = every-in-front xs n i d (le-of-suc-le-suc l) (le-of-suc-le-suc h) (e .1)
+  every-in-front xs n i d l h e = rw (getD-take n xs i d l) at (every-at (take n xs) i d (omega (arith, length-take n xs)) e)
 
 -- what holds of each element gives another fact of each
 pub every-map : {A : Type 0} (P Q : A → Type 0) → ((x : A) → P x → Q x) → (xs : List A) → Every P xs → Every Q xs
@@ -65,16 +59,18 @@ every-pad P size blank xs b e = every-append P xs (replicate (size - length xs) 
     blanks (suc n) = (b, blanks n)
 
 -- Lists that agree are equal, where elements that agree are.
-pub same-equal : {A : Type 0} (agree : A → A → Bool) → ((x y : A) → agree x y ≡ true → x ≡ y) → (xs ys : List A) → same agree xs ys ≡ true → xs ≡ ys
+pub same-equal : {A : Type 0} (agree : A → A → Bool) → ((x y : A) → agree x y ≡ true → x ≡ y)
+    → (xs ys : List A) → same agree xs ys ≡ true → xs ≡ ys
 same-equal agree equal [] [] e = refl
-same-equal agree equal [] (y ∷ ys) e = absurd (false≢true e)
-same-equal agree equal (x ∷ xs) [] e = absurd (false≢true e)
+same-equal agree equal [] (y ∷ ys) e = cc
+same-equal agree equal (x ∷ xs) [] e = cc
 same-equal agree equal (x ∷ xs) (y ∷ ys) e =
     let both = and-eq-true-iff (agree x y) (same agree xs ys) .0 e in
     rw (equal x y (both .0), same-equal agree equal xs ys (both .1))
 
 -- To agree with a run of one element is a test of each element.
-pub same-replicate : {A : Type 0} (agree : A → A → Bool) (y : A) (xs : List A) (n : ℕ) → length xs ≡ n → same agree xs (replicate n y) ≡ every (λ x. agree x y) (take n xs)
+pub same-replicate : {A : Type 0} (agree : A → A → Bool) (y : A) (xs : List A) (n : ℕ) → length xs ≡ n
+    → same agree xs (replicate n y) ≡ every (λ x. agree x y) (take n xs)
 same-replicate agree y [] zero e = refl
 same-replicate agree y [] (suc n) e = let never : ⊥ = omega arith in absurd never
 same-replicate agree y (x ∷ xs) zero e = let never : ⊥ = omega arith in absurd never

@@ -1,26 +1,23 @@
--- Laws of padded lists. Assumes nothing.
-use mathlib.Core.Path.{_≡_, refl, ap, sym, _∙_}
-use mathlib.Core.List.{List, [], _∷_, _++_, map, map-append}
-use mathlib.Core.Bool.{Bool, true, false}
-use Prim.Native.Nat.{ℕ, zero, suc, _-_, min, _≤_, _<_}
-use native.Mathlib.Nat.{le-of-lt, min-eq-left, min-eq-right, sub-zero, zero-sub, suc-sub-suc}
-use native.Mathlib.Omega.{arith}
-use lib.Dec.{leb}
-use lib.ListN.{length, length-append, length-map, replicate, length-replicate, getD, set, take, drop, List·getD-append}
-use lib.Seq.{drop-cons, take-append-seam, take-all, take-nil, take-suc, length-take-le, set-at, append-snoc}
-use borrow.Author.Tests.{leb-true, leb-false}
+-- Laws of lists as arrays hold them: padded, filled from the front, and their parts. Assumes nothing.
+use Rattle.common.proofs.Words.{_≡_, sym, _∙_, List, [], _∷_, _++_, map, map-append, ℕ, zero, suc, _-_, min, _≤_, _<_, le-of-lt}
+use Rattle.common.proofs.Words.{sub-zero, arith, length, length-append, length-take, length-map, replicate, length-replicate, getD}
+use Rattle.common.proofs.Words.{set, take, drop, drop-cons, take-append-seam, take-all, take-suc, length-take-le, append-snoc}
+use native.Mathlib.{Nat.zero-sub, Nat.suc-sub-suc, Omega.min-cases}
+use lib.{ListN.List·getD-append, Seq.take-nil, Seq.set-at}
 use Rattle.lists.specs.Pad.{pad}
 
 module _ {A : Type 0} (blank : A) where
   pub length-pad : (size : ℕ) (xs : List A) → length xs ≤ size → length (pad size blank xs) ≡ size
-  length-pad size xs h = rw (length-append xs (replicate (size - length xs) blank), length-replicate (size - length xs) blank) (omega arith)
+  length-pad size xs h = simp (length-append, length-replicate) (omega arith)
 
   -- A store behind the list, at the first blank, makes the list longer by one.
-  pub pad-store : (size i : ℕ) (xs : List A) (x : A) → length xs ≡ i → i < size → set (pad size blank xs) i x ≡ pad size blank (xs ++ (x ∷ []))
+  pub pad-store : (size i : ℕ) (xs : List A) (x : A) → length xs ≡ i → i < size
+      → set (pad size blank xs) i x ≡ pad size blank (xs ++ (x ∷ []))
   pad-store size i xs x e h =
       let more : size - length xs ≡ suc (size - suc i) = omega arith in
       let rest : size - length (xs ++ (x ∷ [])) ≡ size - suc i = rw (length-append xs (x ∷ [])) (omega arith) in
-      rw (more, rest, set-at xs blank (replicate (size - suc i) blank) x i e) (sym (append-snoc xs x (replicate (size - suc i) blank)))
+      let behind = replicate (size - suc i) blank in
+      rw (more, rest, set-at xs blank behind x i e, append-snoc xs x behind)
 
   -- what was padded is the front
   pub take-pad : (size : ℕ) (xs : List A) → take (length xs) (pad size blank xs) ≡ xs
@@ -31,44 +28,47 @@ pub length-of-mapped : {A B : Type 0} (f : A → B) (xs : List A) (n : ℕ) → 
 length-of-mapped f xs n e = sym (length-map xs f) ∙ e
 
 -- one element more
-pub map-take-suc : {A B : Type 0} (f : A → B) (xs : List A) (i : ℕ) (d : A) → i < length xs → map f (take (suc i) xs) ≡ map f (take i xs) ++ (f (getD xs i d) ∷ [])
+pub map-take-suc : {A B : Type 0} (f : A → B) (xs : List A) (i : ℕ) (d : A) → i < length xs
+    → map f (take (suc i) xs) ≡ map f (take i xs) ++ (f (getD xs i d) ∷ [])
 map-take-suc f xs i d h = rw (take-suc xs i d h) (map-append f (take i xs) (getD xs i d ∷ []))
 
 pub length-map-take : {A B : Type 0} (f : A → B) (xs : List A) (i : ℕ) → i ≤ length xs → length (map f (take i xs)) ≡ i
 length-map-take f xs i h = length-map (take i xs) f ∙ length-take-le i xs h
 
 -- An array that is filled from the front with f of each element.
-pub pad-map-next : {A B : Type 0} (f : A → B) (blank : B) (size : ℕ) (xs : List A) (i : ℕ) (d : A) → i < length xs → i < size → set (pad size blank (map f (take i xs))) i (f (getD xs i d)) ≡ pad size blank (map f (take (suc i) xs))
+pub pad-map-next : {A B : Type 0} (f : A → B) (blank : B) (size : ℕ) (xs : List A) (i : ℕ) (d : A) → i < length xs → i < size
+    → set (pad size blank (map f (take i xs))) i (f (getD xs i d)) ≡ pad size blank (map f (take (suc i) xs))
 pad-map-next f blank size xs i d h within =
-    pad-store blank size i (map f (take i xs)) (f (getD xs i d)) (length-map-take f xs i (le-of-lt h)) within ∙ ap (pad size blank) (sym (map-take-suc f xs i d h))
+    rw (map-take-suc f xs i d h)
+    (pad-store blank size i (map f (take i xs)) (f (getD xs i d)) (length-map-take f xs i (le-of-lt h)) within)
 
 -- An array that is filled from the front with the elements.
-pub pad-next : {A : Type 0} (blank : A) (size : ℕ) (xs : List A) (i : ℕ) (d : A) → i < length xs → i < size → set (pad size blank (take i xs)) i (getD xs i d) ≡ pad size blank (take (suc i) xs)
+pub pad-next : {A : Type 0} (blank : A) (size : ℕ) (xs : List A) (i : ℕ) (d : A) → i < length xs → i < size
+    → set (pad size blank (take i xs)) i (getD xs i d) ≡ pad size blank (take (suc i) xs)
 pad-next blank size xs i d h within =
-    pad-store blank size i (take i xs) (getD xs i d) (length-take-le i xs (le-of-lt h)) within ∙ ap (pad size blank) (sym (take-suc xs i d h))
+    rw (take-suc xs i d h) (pad-store blank size i (take i xs) (getD xs i d) (length-take-le i xs (le-of-lt h)) within)
 
 pub drop-replicate : {A : Type 0} (x : A) (i n : ℕ) → drop i (replicate n x) ≡ replicate (n - i) x
-drop-replicate x zero n = ap (λ k. replicate k x) (sym (sub-zero n))
-drop-replicate x (suc i) zero = ap (λ k. replicate k x) (sym (zero-sub (suc i)))
-drop-replicate x (suc i) (suc n) = drop-replicate x i n ∙ ap (λ k. replicate k x) (sym (suc-sub-suc n i))
+drop-replicate x zero n = rw (sub-zero n)
+drop-replicate x (suc i) zero = rw (zero-sub (suc i))
+drop-replicate x (suc i) (suc n) = rw (suc-sub-suc n i) (drop-replicate x i n)
 
 -- a part from a place on, of a front
 pub drop-take : {A : Type 0} (n m : ℕ) (xs : List A) → drop n (take m xs) ≡ take (m - n) (drop n xs)
-drop-take zero m xs = ap (λ k. take k xs) (sym (sub-zero m))
-drop-take (suc n) zero xs = ap (λ k. take k (drop (suc n) xs)) (sym (zero-sub (suc n)))
-drop-take (suc n) (suc m) [] = sym (take-nil (suc m - suc n))
-drop-take (suc n) (suc m) (x ∷ xs) = drop-take n m xs ∙ ap (λ k. take k (drop n xs)) (sym (suc-sub-suc m n))
+drop-take zero m xs = rw (sub-zero m)
+drop-take (suc n) zero xs = rw (zero-sub (suc n))
+drop-take (suc n) (suc m) [] = rw (take-nil (suc m - suc n))
+drop-take (suc n) (suc m) (x ∷ xs) = rw (suc-sub-suc m n) (drop-take n m xs)
 
 pub length-take-most : {A : Type 0} (n : ℕ) (xs : List A) → length (take n xs) ≤ n
-length-take-most zero xs = omega arith
-length-take-most (suc n) [] = omega arith
-length-take-most (suc n) (x ∷ xs) = omega (arith, length-take-most n xs)
+length-take-most n xs = omega (arith, length-take n xs)
 
 -- More than there are is all there are.
 pub take-past : {A : Type 0} (n m : ℕ) (xs : List A) → length xs ≡ m → m ≤ n → take n xs ≡ take m xs
 take-past n m xs l h = take-all n xs (omega arith) ∙ sym (take-all m xs (omega arith))
 
-pub getD-pad : {A : Type 0} (blank : A) (size : ℕ) (xs : List A) (i : ℕ) → i < length xs → getD (pad size blank xs) i blank ≡ getD xs i blank
+pub getD-pad : {A : Type 0} (blank : A) (size : ℕ) (xs : List A) (i : ℕ) → i < length xs
+    → getD (pad size blank xs) i blank ≡ getD xs i blank
 getD-pad blank size xs i h = List·getD-append xs (replicate (size - length xs) blank) blank i h
 
 -- The front of one list put over the front of another, one place after another.
@@ -80,8 +80,4 @@ fill-next front rest d i h long =
 
 -- No more elements than there are.
 pub take-min : {A : Type 0} (n m : ℕ) (xs : List A) → length xs ≡ m → take (min n m) xs ≡ take n xs
-take-min n m xs l = go (leb n m) refl
-  where
-    go : (b : Bool) → leb n m ≡ b → take (min n m) xs ≡ take n xs
-    go true e = ap (λ k. take k xs) (min-eq-left (leb-true n m e))
-    go false e = ap (λ k. take k xs) (min-eq-right (le-of-lt (leb-false n m e))) ∙ sym (take-past n m xs l (le-of-lt (leb-false n m e)))
+take-min n m xs l = min-cases n m (take (min n m) xs ≡ take n xs) (λ h e. rw e) (λ h e. rw (e, take-past n m xs l h))

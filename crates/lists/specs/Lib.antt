@@ -1,4 +1,4 @@
--- Sums over lists, and arrays filled from the front.
+-- Sums over lists, arrays filled from the front, what every element passes, and joined texts.
 pub mod Sum
 pub mod Pad
 pub mod Every

@@ -1,1 +1,1 @@
-// Sums over lists, and arrays filled from the front: definitions in specs/ and laws in proofs/, and no code.
+// Sums over lists, arrays filled from the front, what every element passes, and joined texts: definitions in specs/ and laws in proofs/, and no code.

@@ -1,30 +1,20 @@
 -- Laws of dials. Assumes nothing.
-use mathlib.Core.Path.{_≡_, refl}
-use mathlib.Core.Logic.{⊎-elim}
-use mathlib.Core.Bool.{Bool, true, false, cond}
-use Prim.Native.Nat.{ℕ, _+_, _-_, _≤_, _<_}
-use native.Mathlib.Nat.{eq-or-lt-of-le}
-use native.Mathlib.Omega.{arith}
-use lib.Dec.{leb}
-use borrow.Author.Tests.{leb-false}
+use Rattle.common.proofs.Words.{_≡_, refl, sym, ⊎-elim, Bool, true, false, cond, ℕ, _+_, _-_, _≤_, _<_, eq-or-lt-of-le, arith, leb}
+use Rattle.common.proofs.Words.{leb-false}
 use Rattle.meter.specs.Dial.{span, advance, Digits, OnDial}
 
-four : {digits : ℕ} → digits ≡ 4 → span digits ≡ 10000
+pub span-four : {digits : ℕ} → digits ≡ 4 → span digits ≡ 10000
 unfolding span
-four e = rw e
+span-four e = rw e
 
-five : {digits : ℕ} → digits ≡ 5 → span digits ≡ 100000
+pub span-five : {digits : ℕ} → Digits digits → (digits ≡ 4 → ⊥) → span digits ≡ 100000
 unfolding span
-five e = rw e
-
-pub span-four : (digits : ℕ) → digits ≡ 4 → span digits ≡ 10000
-span-four digits e = four e
-
-pub span-five : (digits : ℕ) → Digits digits → (digits ≡ 4 → ⊥) → span digits ≡ 100000
-span-five digits w h = five (omega arith)
+span-five {digits} w h = let e : digits ≡ 5 = omega arith in rw e
 
 pub span-most : (digits : ℕ) → Digits digits → span digits ≤ 100000
-span-most digits w = ⊎-elim (λ (e : 4 ≡ digits). omega (arith, span-four digits (omega arith))) (λ (l : 4 < digits). omega (arith, five {digits = digits} (omega arith))) (eq-or-lt-of-le (w .0))
+span-most digits w =
+    ⊎-elim (λ (e : 4 ≡ digits). omega (arith, span-four (sym e))) (λ (l : 4 < digits). omega (arith, span-five w (omega arith)))
+    (eq-or-lt-of-le (w .0))
 
 -- An advance stays below the span, and takes the old reading to the new one, past the span at most once.
 pub advance-within : (digits old new : ℕ) → OnDial digits old new → advance digits old new < span digits

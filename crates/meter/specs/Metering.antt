@@ -1,7 +1,6 @@
 -- What becomes of a meter's numbers: its digits, its dial, the pool and the volume of the period before.
 use Prim.Native.Nat.{ℕ, _+_}
-use Rattle.meter.specs.declared.Meter.{Meter}
-use Rattle.meter.specs.Dial.{advance}
+use Rattle.meter.specs.{declared.Meter.Meter, Dial.advance}
 
 -- The meter with other numbers.
 abbrev pub with : Meter → ℕ → ℕ → ℕ → ℕ → Meter

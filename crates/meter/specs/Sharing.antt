@@ -1,14 +1,12 @@
 -- The volumes that a real closing makes final: articles 14(1), 14(4) and 14(5).
+use mathlib.Core.Path.{_≡_}
 use mathlib.Core.Bool.{Bool, true, false, cond, not}
 use mathlib.Core.List.{List, [], _∷_, _++_, map, reverse}
 use Prim.Native.Nat.{ℕ, _+_, _-_, _/_, _≤_}
-use lib.Dec.{leb}
-use lib.ListN.{length, take}
-use Rattle.lists.specs.Pad.{pad}
-use Rattle.lists.specs.Sum.{total}
-use Rattle.meter.specs.declared.Estimate.{Estimate}
-use Rattle.meter.specs.declared.Estimates.{Estimates}
-use Rattle.meter.specs.declared.Volumes.{Volumes}
+use lib.{Dec.leb, ListN.length, ListN.take}
+use Rattle.lists.specs.{Pad.pad, Sum.total}
+use Rattle.tariff.specs.Limits.{mostVolume}
+use Rattle.meter.specs.{Limits.mostMisses, declared.Estimate.Estimate, declared.Estimates.Estimates, declared.Volumes.Volumes}
 use Rattle.meter.specs.declared.Share.{Share}
 
 -- n / k rounded up
@@ -41,10 +39,18 @@ unfoldable pub finalVolumes : List Estimate → ℕ → List ℕ
 finalVolumes estimates pool =
     cond (leb (estimated estimates) pool) (map (λ estimate. estimate .volume) estimates ++ ((pool - estimated estimates) ∷ [])) (sharedPool estimates pool)
 
+-- What a period's turn keeps to. A period that shares is among those left.
+pub record Shareable (absent : Bool) (left periods : ℕ) : Type 0 where
+  pub volume-within : left ≤ mostVolume
+  pub few : periods ≤ 7
+  pub some-left : absent ≡ false → 1 ≤ periods
+
 -- One period's turn: what it takes, what is left and how many periods are left to share it.
 unfoldable pub shareTaken : Bool → ℕ → ℕ → Share
 shareTaken absent left periods =
-    cond absent (record { part = 0; left = left; periods = periods }) (record { part = ceiling left periods; left = left - ceiling left periods; periods = periods - 1 })
+    cond absent
+    (record { part = 0; left = left; periods = periods })
+    (record { part = ceiling left periods; left = left - ceiling left periods; periods = periods - 1 })
 
 -- What a place of the array without an estimate holds.
 abbrev pub blank : Estimate
@@ -59,4 +65,4 @@ abbrev pub volumesOf : List ℕ → Volumes
 volumesOf volumes = record { count = length volumes; volumes = pad 7 0 volumes }
 
 abbrev pub AtMostSix : Estimates → Type 0
-AtMostSix estimates = estimates .count ≤ 6
+AtMostSix estimates = estimates .count ≤ mostMisses

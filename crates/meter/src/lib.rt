@@ -1,13 +1,14 @@
 // Dials and volumes: articles 13 and 14 of the supply terms.
 ghost use mathlib.Core.Path.{_≡_};
-ghost use mathlib.Core.Bool.{false};
 ghost use mathlib.Core.List.{[], _∷_, _++_, map};
 ghost use Prim.Native.Nat.{_+_, _≤_, _<_};
+ghost use Rattle.tariff.specs.Limits.{mostVolume};
 ghost use Rattle.meter.specs.Dial.{span, advance, withinHalf, Digits, OnDial};
-ghost use Rattle.meter.specs.Sharing.{estimated, sharers, sharing, shareTaken, sharedPool, finalVolumes, standing, volumesOf, AtMostSix};
+ghost use Rattle.meter.specs.Sharing.{estimated, sharers, sharing, Shareable, shareTaken, sharedPool, finalVolumes, standing, volumesOf, AtMostSix};
 use tariff::Fuel;
 
-// A meter under supply: its digits and what its dial showed last; the advance of all meters since the last real closing reading; the volume of the latest period.
+// A meter under supply: its digits and what its dial showed last; the advance of all meters since the last real closing reading;
+// the volume of the latest period.
 pub struct Meter {
     pub digits: u8,
     pub dial: u32,
@@ -36,12 +37,11 @@ pub struct Volumes {
     pub volumes: [u32; 7],
 }
 
-// The numbers that a dial shows.
-pub fn dial_span(digits: u8) -> u32
-    requires { ⌜ Digits digits ⌝ }
-    ensures { λ r. ⌜ r ≡ span digits ⌝ }
-{
-    if digits == 4 { 10_000 } else { 100_000 }
+// What a period takes of a pool, and what is left for how many periods before it.
+pub struct Share {
+    pub part: u32,
+    pub left: u32,
+    pub periods: u32,
 }
 
 // How far a dial turned from one reading to the next.
@@ -64,10 +64,18 @@ pub fn within_half(digits: u8, volume: u32) -> bool
     volume <= dial_span(digits) / 2
 }
 
+// The numbers that a dial shows.
+pub fn dial_span(digits: u8) -> u32
+    requires { ⌜ Digits digits ⌝ }
+    ensures { λ r. ⌜ r ≡ span digits ⌝ }
+{
+    if digits == 4 { 10_000 } else { 100_000 }
+}
+
 // The volumes that a reading makes final: the estimates and what is left of the pool for this period, or shares of the pool.
 pub fn final_volumes(estimates: Estimates, pool: u32) -> Volumes
     requires { ⌜ AtMostSix estimates ⌝ }
-    requires { ⌜ pool ≤ 99999 ⌝ }
+    requires { ⌜ pool ≤ mostVolume ⌝ }
     ensures { λ r. ⌜ r ≡ volumesOf (finalVolumes (standing estimates) pool) ⌝ }
 {
     let billed = estimated_volume(estimates);
@@ -114,57 +122,10 @@ fn confirm(estimates: Estimates, rest: u32) -> Volumes
     }
 }
 
-// How many of the estimates share a pool.
-fn count_sharers(estimates: Estimates) -> u32
-    requires { ⌜ AtMostSix estimates ⌝ }
-    ensures { λ r. ⌜ r ≡ sharers (map sharing (standing estimates)) ⌝ }
-{
-    let count = estimates.count;
-    let mut n: u32 = 0;
-    let mut i: usize = 0;
-    while i < count {
-        let estimate = estimates.periods[i];
-        if !estimate.absent {
-            n += 1;
-        }
-        i += 1;
-    }
-    n
-}
-
-// What a period takes of a pool, and what is left for how many periods before it.
-pub struct Share {
-    pub part: u32,
-    pub left: u32,
-    pub periods: u32,
-}
-
-// One period's turn: what is left divided by the periods left, rounded up.
-fn take_share(absent: bool, left: u32, periods: u32) -> Share
-    requires { ⌜ left ≤ 99999 ⌝ }
-    requires { ⌜ periods ≤ 7 ⌝ }
-    requires { ⌜ (absent ≡ false → 1 ≤ periods) ⌝ }
-    ensures { λ r. ⌜ r ≡ shareTaken absent left periods ⌝ }
-{
-    if absent {
-        return Share {
-            part: 0,
-            left: left,
-            periods: periods,
-        };
-    }
-    let part = (left + (periods - 1)) / periods;
-    Share {
-        part: part,
-        left: left - part,
-        periods: periods - 1,
-    }
-}
-
 // The pool shared by this period and the estimates, latest first.
 fn share_pool(estimates: Estimates, pool: u32) -> Volumes
     requires { ⌜ AtMostSix estimates ⌝ }
-    requires { ⌜ pool ≤ 99999 ⌝ }
+    requires { ⌜ pool ≤ mostVolume ⌝ }
     ensures { λ r. ⌜ r ≡ volumesOf (sharedPool (standing estimates) pool) ⌝ }
 {
     let count = estimates.count;
@@ -182,4 +143,42 @@ fn share_pool(estimates: Estimates, pool: u32) -> Volumes
         count: count + 1,
         volumes: volumes,
     }
+}
+
+// One period's turn: what is left divided by the periods left, rounded up.
+fn take_share(absent: bool, left: u32, periods: u32) -> Share
+    requires { ⌜ Shareable absent left periods ⌝ }
+    ensures { λ r. ⌜ r ≡ shareTaken absent left periods ⌝ }
+{
+    if absent {
+        return Share {
+            part: 0,
+            left: left,
+            periods: periods,
+        };
+    }
+    let part = (left + (periods - 1)) / periods;
+    Share {
+        part: part,
+        left: left - part,
+        periods: periods - 1,
+    }
+}
+
+// How many of the estimates share a pool.
+fn count_sharers(estimates: Estimates) -> u32
+    requires { ⌜ AtMostSix estimates ⌝ }
+    ensures { λ r. ⌜ r ≡ sharers (map sharing (standing estimates)) ⌝ }
+{
+    let count = estimates.count;
+    let mut n: u32 = 0;
+    let mut i: usize = 0;
+    while i < count {
+        let estimate = estimates.periods[i];
+        if !estimate.absent {
+            n += 1;
+        }
+        i += 1;
+    }
+    n
 }

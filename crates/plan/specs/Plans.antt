@@ -1,36 +1,32 @@
 -- What a call plans: the head after it, what becomes of the estimates, what is asked of the ledger, and the numbers of its answer.
+use mathlib.Core.Path.{_≡_}
 use mathlib.Core.Bool.{Bool, true, false, cond}
 use mathlib.Core.List.{List, [], _∷_, _++_}
 use Prim.Native.Nat.{ℕ, _+_, _≤_, _<_}
-use lib.Dec.{eqb}
-use lib.IntN.{pos}
-use Rattle.tariff.specs.declared.Fuel.{Fuel}
-use Rattle.tariff.specs.Price.{priceOf}
-use Rattle.meter.specs.declared.Estimate.{Estimate}
-use Rattle.meter.specs.declared.Estimates.{Estimates}
+use lib.{Dec.eqb, IntN.pos, ListN.length}
+use Rattle.tariff.specs.{declared.Fuel.Fuel, Price.priceOf}
 use Rattle.meter.specs.Metering.{setOn, exchangedFor, readAt, missedAt}
-use Rattle.meter.specs.Sharing.{standing}
-use Rattle.ledger.specs.declared.Entry.{Entry}
-use Rattle.ledger.specs.Posting.{chargeOf, creditOf}
+use Rattle.meter.specs.{declared.Estimate.Estimate, declared.Estimates.Estimates, Sharing.standing}
+use Rattle.ledger.specs.{declared.Entry.Entry, Posting.chargeOf, Posting.creditOf}
+use Rattle.intake.specs.declared.Call.the-variants.{Opening, Reading, Missed, Absent, Exchange, Disconnection, Reconnection, Cancellation}
+use Rattle.intake.specs.declared.Call.the-variants.{Payment, StoppedCancellation}
 use Rattle.intake.specs.declared.Status.{Status}
 use Rattle.intake.specs.declared.Status.the-variants.{Supplied, Stopped, Cancelled}
-use Rattle.intake.specs.declared.Head.{Head}
-use Rattle.intake.specs.declared.Call.{Call}
-use Rattle.intake.specs.declared.Call.the-variants.{Opening, Reading, Missed, Absent, Exchange, Disconnection, Reconnection, Cancellation, Payment, StoppedCancellation}
+use Rattle.intake.specs.{declared.Head.Head, declared.Call.Call, Limits.mostMisses, Heads.headOn, Heads.HeadBounds, Heads.EstimatesFit}
+use Rattle.intake.specs.{Statuses.isCancelled, Statuses.startOf, Statuses.stopOf, Periods.daysOf, Periods.dayAfter, Periods.resumedStart}
+use Rattle.intake.specs.Refusals.{readingRefusal, firstRefusal}
 use Rattle.plan.specs.declared.Change.{Change}
 use Rattle.plan.specs.declared.Change.the-variants.{Kept, Cleared, Added}
 use Rattle.plan.specs.declared.Then.{Then}
 use Rattle.plan.specs.declared.Then.the-variants.{Goes, Stops, Ends}
-use Rattle.plan.specs.declared.ClosingRead.{ClosingRead}
-use Rattle.plan.specs.declared.Miss.{Miss}
-use Rattle.closing.specs.declared.Figures.{Figures}
-use Rattle.plan.specs.declared.Plan.{Plan}
-use Rattle.intake.specs.Limits.{mostMisses}
-use Rattle.intake.specs.Heads.{headOn}
-use Rattle.intake.specs.Statuses.{isCancelled, startOf, stopOf}
-use Rattle.intake.specs.Periods.{daysOf, dayAfter, resumedStart}
-use Rattle.closing.specs.Closing.{storedEstimates, finals, readFigures}
-use Rattle.intake.specs.Refusals.{readingRefusal, firstRefusal}
+use Rattle.plan.specs.{declared.ClosingRead.ClosingRead, declared.Miss.Miss, declared.Plan.Plan}
+use Rattle.closing.specs.{declared.Figures.Figures, Closing.storedEstimates, Closing.finals, Closing.readFigures}
+
+-- What a plan over estimates begins from: a sound head, its estimates, and a lent array that has room for every volume.
+pub record Plannable (h : Head) (estimates : Estimates) (volumes : List ℕ) : Type 0 where
+  pub bounds : HeadBounds h
+  pub fit : EstimatesFit h estimates
+  pub long : length volumes ≡ 7
 
 -- What becomes of the estimates.
 abbrev pub changed : Change → Estimates → Estimates
@@ -70,18 +66,27 @@ plannedAs number passed h = cond (eqb number 0) passed (quietPlan number h)
 abbrev pub volumesAs : ℕ → List ℕ → List ℕ
 volumesAs number volumes = cond (eqb number 0) volumes []
 
--- 01 and 07.
+-- 01 and 07: supply begins at a dial.
 abbrev pub begunPlan : Head → ℕ → ℕ → ℕ → ℕ → Plan
 begunPlan h day reading digits start = quietPlan 0 (headOn h (Supplied start) day (setOn (h .meter) digits reading) (h .standing))
 
--- 05.
+-- 05: meter change.
 abbrev pub exchangedPlan : Head → ℕ → ℕ → ℕ → ℕ → Plan
 exchangedPlan h day old new digits = quietPlan 0 (headOn h (h .status) day (exchangedFor (h .meter) old new digits) (h .standing))
 
 -- 09 and 0a: what they ask of the ledger, and no more.
 abbrev pub askingPlan : Head → Status → Entry → Plan
 askingPlan h status entry =
-    record { number = 0; head = headOn h status (entry .day) (h .meter) (h .standing); change = Kept; asks = true; entry = entry; estimated = 0; count = 0; net = pos 0 }
+    record {
+      number = 0;
+      head = headOn h status (entry .day) (h .meter) (h .standing);
+      change = Kept;
+      asks = true;
+      entry = entry;
+      estimated = 0;
+      count = 0;
+      net = pos 0;
+    }
 
 abbrev pub moneyEntry : ℕ → ℕ → Bool → Entry
 moneyEntry day money posts = record { day = day; money = money; closes = false; charge = 0; posts = posts }
@@ -95,7 +100,7 @@ heldEntry day = record { day = day; money = 0; closes = true; charge = 0; posts 
 abbrev pub stoppedPlan : Head → ℕ → Plan
 stoppedPlan h day = askingPlan h Cancelled (heldEntry day)
 
--- 03 and 04.
+-- 03 and 04: a missed reading.
 module _ (h : Head) (day : ℕ) (fuel : Fuel) (absent : Bool) (volume : ℕ) where
   abbrev pub missCharge : ℕ
   missCharge = priceOf (daysOf (startOf (h .status)) day) fuel volume

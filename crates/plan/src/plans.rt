@@ -11,8 +11,10 @@ ghost use Rattle.intake.specs.Statuses.{isNew, isStopped, stopOf};
 ghost use Rattle.intake.specs.Periods.{resumedStart};
 ghost use Rattle.intake.specs.Limits.{mostVolume};
 ghost use Rattle.intake.specs.Refusals.{begins, dialRefusal, missRefusal, exchangeRefusal, paymentRefusal};
-ghost use Rattle.intake.specs.Heads.{HeadBounds, EstimatesFit};
-ghost use Rattle.plan.specs.Plans.{ends, statusAfter, quietPlan, plannedAs, begunPlan, exchangedPlan, paymentPlan, stoppedPlan, askingPlan, moneyEntry, heldEntry, missPlan, missedVolume, figuredPlan, readPlanned, readVolumes, readingIn, missIn, misses, planned, plannedVolumes, reads};
+ghost use Rattle.intake.specs.Heads.{HeadBounds};
+ghost use Rattle.plan.specs.Plans.{ends, statusAfter, quietPlan, plannedAs, begunPlan, exchangedPlan, paymentPlan, stoppedPlan};
+ghost use Rattle.plan.specs.Plans.{askingPlan, moneyEntry, heldEntry, missPlan, missedVolume, figuredPlan, readPlanned, readVolumes};
+ghost use Rattle.plan.specs.Plans.{readingIn, missIn, misses, planned, plannedVolumes, reads, Plannable};
 ghost use Rattle.closing.specs.Closing.{filledWith};
 use crate::Change;
 use crate::ClosingRead;
@@ -71,9 +73,7 @@ const NO_MISS: Miss = Miss {
 
 // Any call, with the estimates that stand.
 pub fn plan_with(head: Head, estimates: Estimates, call: Call, volumes: &mut [u32; 7]) -> Plan
-    requires { ⌜ HeadBounds head ⌝ }
-    requires { ⌜ EstimatesFit head estimates ⌝ }
-    requires { ⌜ length (now volumes) ≡ 7 ⌝ }
+    requires { ⌜ Plannable head estimates (now volumes) ⌝ }
     ensures { λ r. ⌜ r ≡ planned head (standing estimates) call ⌝ }
     ensures { λ _. ⌜ now (volumes .exit) ≡ filledWith (plannedVolumes head (standing estimates) call) (now (volumes .entry)) ⌝ }
 {
@@ -155,9 +155,7 @@ pub fn plan_call(head: Head, call: Call, volumes: &mut [u32; 7]) -> Plan
 
 // A call that reads the meter, where estimates stand.
 pub fn plan_over(head: Head, estimates: Estimates, call: Call, volumes: &mut [u32; 7]) -> Plan
-    requires { ⌜ HeadBounds head ⌝ }
-    requires { ⌜ EstimatesFit head estimates ⌝ }
-    requires { ⌜ length (now volumes) ≡ 7 ⌝ }
+    requires { ⌜ Plannable head estimates (now volumes) ⌝ }
     requires { ⌜ reads call ≡ true ⌝ }
     ensures { λ r. ⌜ r ≡ planned head (standing estimates) call ⌝ }
     ensures { λ _. ⌜ now (volumes .exit) ≡ filledWith (plannedVolumes head (standing estimates) call) (now (volumes .entry)) ⌝ }
@@ -231,9 +229,10 @@ fn miss_in(call: Call) -> Miss
     }
 }
 
-// 01
+// 01: opening
 fn plan_opening(head: Head, day: u16, reading: u32, digits: u8) -> Plan
-    ensures { λ r. ⌜ r ≡ plannedAs (dialRefusal (isNew (head .status)) head day reading digits) (begunPlan head day reading digits day) head ⌝ }
+    ensures { λ r. ⌜ r ≡ plannedAs (dialRefusal (isNew (head .status)) head day reading digits)
+        (begunPlan head day reading digits day) head ⌝ }
 {
     let status = head.status;
     let number = dial_refusal(is_new(status), head, day, reading, digits);
@@ -243,9 +242,10 @@ fn plan_opening(head: Head, day: u16, reading: u32, digits: u8) -> Plan
     begin_period(head, day, reading, digits, day)
 }
 
-// 07
+// 07: resumption
 fn plan_reconnection(head: Head, day: u16, reading: u32, digits: u8) -> Plan
-    ensures { λ r. ⌜ r ≡ plannedAs (dialRefusal (isStopped (head .status)) head day reading digits) (begunPlan head day reading digits (resumedStart (stopOf (head .status)) day)) head ⌝ }
+    ensures { λ r. ⌜ r ≡ plannedAs (dialRefusal (isStopped (head .status)) head day reading digits)
+        (begunPlan head day reading digits (resumedStart (stopOf (head .status)) day)) head ⌝ }
 {
     let status = head.status;
     let number = dial_refusal(is_stopped(status), head, day, reading, digits);
@@ -379,7 +379,8 @@ fn asking(head: Head, status: Status, entry: Entry) -> Plan
 // 03 bills the volume of the period just before, 04 bills 0.
 fn plan_miss(head: Head, miss: Miss) -> Plan
     requires { ⌜ HeadBounds head ⌝ }
-    ensures { λ r. ⌜ r ≡ plannedAs (missRefusal head (miss .day) (miss .fuel)) (missPlan head (miss .day) (miss .fuel) (miss .absent) (missedVolume head (miss .absent))) head ⌝ }
+    ensures { λ r. ⌜ r ≡ plannedAs (missRefusal head (miss .day) (miss .fuel))
+        (missPlan head (miss .day) (miss .fuel) (miss .absent) (missedVolume head (miss .absent))) head ⌝ }
 {
     let number = miss_refusal(head, miss.day, miss.fuel);
     if number != 0 {
@@ -464,9 +465,7 @@ fn plan_reading_over(
     read: ClosingRead,
     volumes: &mut [u32; 7],
 ) -> Plan
-    requires { ⌜ HeadBounds head ⌝ }
-    requires { ⌜ EstimatesFit head estimates ⌝ }
-    requires { ⌜ length (now volumes) ≡ 7 ⌝ }
+    requires { ⌜ Plannable head estimates (now volumes) ⌝ }
     ensures { λ r. ⌜ r ≡ readPlanned head (standing estimates) read ⌝ }
     ensures { λ _. ⌜ now (volumes .exit) ≡ filledWith (readVolumes head (standing estimates) read) (now (volumes .entry)) ⌝ }
 {

@@ -73,41 +73,6 @@ pub fn text(line: &[u8]) {
     io::write_all(STDOUT_FILENO, line);
 }
 
-// Two estimates stand.
-fn estimates(second: Estimate) -> Estimates {
-    let mut periods = [MISSED; 6];
-    periods[1] = second;
-    Estimates {
-        count: 2,
-        periods: periods,
-    }
-}
-
-// Two items are open.
-fn ledger(second: Item) -> Ledger {
-    let mut items = [OPEN; 72];
-    items[1] = second;
-    Ledger {
-        count: 2,
-        items: items,
-        held: 5,
-        credit: 0,
-    }
-}
-
-// A supplied account with two estimates, two items and interest held.
-pub fn supplied() -> Account {
-    let estimates = estimates(MISSED);
-    let ledger = ledger(INTEREST);
-    Account {
-        status: Status::Supplied { start: 90 },
-        latest: 100,
-        meter: METER,
-        estimates: estimates,
-        ledger: ledger,
-    }
-}
-
 pub fn with_status(status: Status) -> Account {
     let account = supplied();
     Account {
@@ -158,19 +123,6 @@ pub fn with_previous(previous: u32) -> Account {
     }
 }
 
-fn with_estimates(estimates: Estimates) -> Account {
-    let account = supplied();
-    Account {
-        estimates: estimates,
-        ..account
-    }
-}
-
-// The second estimate is as given.
-fn with_estimate(second: Estimate) -> Account {
-    with_estimates(estimates(second))
-}
-
 pub fn with_days(days: u16) -> Account {
     with_estimate(Estimate {
         days: days,
@@ -202,17 +154,9 @@ pub fn with_charge(charged: u32) -> Account {
     })
 }
 
-fn with_ledger(ledger: Ledger) -> Account {
-    let account = supplied();
-    Account {
-        ledger: ledger,
-        ..account
-    }
-}
-
-// The second item is as given.
-fn with_item(second: Item) -> Account {
-    with_ledger(ledger(second))
+// The second estimate is as given.
+fn with_estimate(second: Estimate) -> Account {
+    with_estimates(estimates(second))
 }
 
 pub fn with_price(amount: u64, unpaid: u64) -> Account {
@@ -236,6 +180,11 @@ pub fn with_item_days(obligation: u16, due: u16) -> Account {
         due: due,
         ..OPEN
     })
+}
+
+// The second item is as given.
+fn with_item(second: Item) -> Account {
+    with_ledger(ledger(second))
 }
 
 pub fn with_held(status: Status, held: u64) -> Account {
@@ -275,6 +224,14 @@ pub fn many_estimates(count: usize) -> Account {
     })
 }
 
+fn with_estimates(estimates: Estimates) -> Account {
+    let account = supplied();
+    Account {
+        estimates: estimates,
+        ..account
+    }
+}
+
 // The 72nd place holds an item with 0 unpaid.
 pub fn counted_items(count: usize) -> Account {
     let mut items = [OPEN; 72];
@@ -285,4 +242,47 @@ pub fn counted_items(count: usize) -> Account {
         held: 0,
         credit: 0,
     })
+}
+
+fn with_ledger(ledger: Ledger) -> Account {
+    let account = supplied();
+    Account {
+        ledger: ledger,
+        ..account
+    }
+}
+
+// A supplied account with two estimates, two items and interest held.
+pub fn supplied() -> Account {
+    let estimates = estimates(MISSED);
+    let ledger = ledger(INTEREST);
+    Account {
+        status: Status::Supplied { start: 90 },
+        latest: 100,
+        meter: METER,
+        estimates: estimates,
+        ledger: ledger,
+    }
+}
+
+// Two estimates stand.
+fn estimates(second: Estimate) -> Estimates {
+    let mut periods = [MISSED; 6];
+    periods[1] = second;
+    Estimates {
+        count: 2,
+        periods: periods,
+    }
+}
+
+// Two items are open.
+fn ledger(second: Item) -> Ledger {
+    let mut items = [OPEN; 72];
+    items[1] = second;
+    Ledger {
+        count: 2,
+        items: items,
+        held: 5,
+        credit: 0,
+    }
 }

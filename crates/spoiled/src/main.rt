@@ -27,6 +27,20 @@ use samples::with_price;
 use samples::with_status;
 use samples::with_volume;
 
+fn main() {
+    statuses();
+    meters();
+    estimate_days();
+    estimate_fuels();
+    estimate_amounts();
+    estimate_counts();
+    item_amounts();
+    item_days();
+    item_counts();
+    balances();
+    calls();
+}
+
 fn statuses() {
     show(Account::new(), b"new");
     show(supplied(), b"supplied");
@@ -150,22 +164,6 @@ fn balances() {
     show(with_credit(0, 1_000_000_000), b"credit 1000000000");
 }
 
-fn supplied_calls(account: Account) {
-    line(account.read_meter(100, 140, FUEL), b"02");
-    line(account.miss_reading(100, FUEL), b"03");
-    line(account.note_absence(100, FUEL), b"04");
-    line(account.exchange_meter(100, 140, 0, 4), b"05");
-    line(account.disconnect(100, 140, FUEL), b"06");
-    line(account.cancel(100, 140, FUEL), b"08");
-    line(account.pay(100, 1), b"09");
-}
-
-fn other_calls(account: Account) {
-    line(account.begin_supply(100, 0, 4), b"01");
-    line(account.reconnect(100, 0, 4), b"07");
-    line(account.cancel_stopped(100), b"0a");
-}
-
 // Each call on a whole account that allows it, then on one account that is not whole.
 fn calls() {
     text(b"a new account\n");
@@ -179,16 +177,18 @@ fn calls() {
     other_calls(with_pool(100_000));
 }
 
-fn main() {
-    statuses();
-    meters();
-    estimate_days();
-    estimate_fuels();
-    estimate_amounts();
-    estimate_counts();
-    item_amounts();
-    item_days();
-    item_counts();
-    balances();
-    calls();
+fn other_calls(account: Account) {
+    line(account.begin_supply(100, 0, 4), b"01");
+    line(account.reconnect(100, 0, 4), b"07");
+    line(account.cancel_stopped(100), b"0a");
+}
+
+fn supplied_calls(account: Account) {
+    line(account.read_meter(100, 140, FUEL), b"02");
+    line(account.miss_reading(100, FUEL), b"03");
+    line(account.note_absence(100, FUEL), b"04");
+    line(account.exchange_meter(100, 140, 0, 4), b"05");
+    line(account.disconnect(100, 140, FUEL), b"06");
+    line(account.cancel(100, 140, FUEL), b"08");
+    line(account.pay(100, 1), b"09");
 }

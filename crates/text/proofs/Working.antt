@@ -1,31 +1,18 @@
 -- A whole input worked in pieces. Assumes nothing.
-use mathlib.Core.Path.{_≡_, refl, sym, ap, _∙_}
-use mathlib.Core.Bool.{Bool, true, false, cond}
-use mathlib.Core.List.{List, [], _++_}
-use Prim.Native.Nat.{ℕ, _+_, _≤_}
-use native.Mathlib.Nat.{zero-add}
-use native.Mathlib.Omega.{arith}
-use lib.ListN.{length, take, drop, length-append, take-append-drop}
-use borrow.Author.Tests.{le-leb}
-use lib.Seq.{take-all, take-add, take-append-seam, sets-eq}
-use Rattle.lists.specs.Joined.{joined}
-use Rattle.lists.proofs.Joined.{joined-behind}
-use Rattle.account.specs.declared.Account.{Account}
-use Rattle.account.specs.Calls.{newAccount}
+use Rattle.common.proofs.Words.{_≡_, refl, sym, ap, _∙_, Bool, true, false, cond, List, [], _++_, ℕ, _+_, _≤_, zero-add, arith, length}
+use Rattle.common.proofs.Words.{take, drop, length-append, take-all, take-add, take-append-seam, length-sets, le-leb}
+use lib.{ListN.take-append-drop, Seq.sets-eq}
+use Rattle.account.specs.{declared.Account.Account, Calls.newAccount}
 use Rattle.frames.specs.Digits.{written}
-use Rattle.answers.specs.Answers.{answerLine, longestAnswer}
-use Rattle.answers.proofs.Writing.{written-behind}
-use Rattle.lines.specs.declared.State.{State}
-use Rattle.text.specs.Lines.{linesFrom, linesOf}
+use Rattle.answers.specs.Answers.{longestAnswer}
+use Rattle.answers.proofs.Writing.{written-on}
+use Rattle.lines.specs.Feeding.{fresh, Feeding, feeding, finishing, fedOf}
+use Rattle.lines.specs.{declared.State.State, declared.Fed.Fed}
 use Rattle.text.specs.Output.{answersOf, accountAfter, bill, fittedAt}
-use Rattle.lines.specs.Feeding.{fresh, feeding, finishing}
 use Rattle.text.specs.Pieces.{linesIn, partAfter, made, Follows}
-use Rattle.text.proofs.Lines.{lines-split, answers-behind}
+use Rattle.text.specs.Lines.{linesFrom, linesOf}
 use Rattle.text.proofs.Pieces.{follows-start, stands-on, made-is, stands-end}
-
--- What was written is what stands in its place.
-pub shown-part : (text xs : List ℕ) → length xs ≤ length text → take (length xs) (written text 0 xs) ≡ xs
-shown-part text xs h = ap (take (length xs)) (sets-eq xs text 0 (rw (zero-add (length xs)) h)) ∙ take-append-seam xs (drop (0 + length xs) text)
+use Rattle.text.proofs.Lines.{lines-split, text-behind}
 
 -- What the lines of a front make is within what the whole input makes.
 pub made-within : (input : List ℕ) (n : ℕ) → length (made (take n input)) ≤ length (bill input)
@@ -33,10 +20,9 @@ unfolding made bill
 made-within input n =
     let lines = linesIn [] (take n input) in
     let rest = linesFrom (partAfter [] (take n input)) (drop n input) in
-    let whole = ap (linesFrom []) (sym (take-append-drop n input)) ∙ lines-split [] (take n input) (drop n input) in
-    let text = ap (λ ls. joined answerLine (answersOf newAccount ls)) whole ∙ ap (joined answerLine) (answers-behind newAccount lines rest) ∙ joined-behind answerLine (answersOf newAccount lines) (answersOf (accountAfter newAccount lines) rest) in
-    let long = ap length text ∙ length-append (joined answerLine (answersOf newAccount lines)) (joined answerLine (answersOf (accountAfter newAccount lines) rest)) in
-    omega (arith, long)
+    let whole : linesOf input ≡ lines ++ rest =
+    ap linesOf (sym (take-append-drop n input)) ∙ lines-split [] (take n input) (drop n input) in
+    rw (whole, text-behind newAccount lines rest, length-append) (omega arith)
 
 -- Where the work stands after so many bytes.
 pub record Working (input text : List ℕ) (writing : Bool) (out : List ℕ) (s : State) (taken size : ℕ) : Type 0 where
@@ -49,16 +35,14 @@ unfolding made linesIn answersOf
 made-none = refl
 
 pub working-start : (input text : List ℕ) (writing : Bool) → Working input text writing text fresh 0 0
-working-start input text writing = record { stands = follows-start; size-is = rw made-none refl; out-is = rw made-none (either writing) }
-  where
-    either : (w : Bool) → text ≡ cond w text text
-    either true = refl
-    either false = refl
+working-start input text writing =
+    let same : text ≡ cond writing text text = elim writing [ true ↦ refl | false ↦ refl ] in
+    record { stands = follows-start; size-is = rw made-none refl; out-is = rw made-none same }
 
 -- What is written behind what stands, if it is to be written.
 written-more : (writing : Bool) (text one two xs ys : List ℕ) (n : ℕ) → length xs ≡ n → one ≡ cond writing (written text 0 xs) text
     → two ≡ cond writing (written one n ys) one → two ≡ cond writing (written text 0 (xs ++ ys)) text
-written-more true text one two xs ys n l e f = f ∙ ap (λ t. written t n ys) e ∙ ap (λ m. written (written text 0 xs) m ys) (sym l ∙ sym (zero-add (length xs))) ∙ sym (written-behind text 0 xs ys)
+written-more true text one two xs ys n l e f = written-on text 0 xs ys n l e (rw (zero-add n) f)
 written-more false text one two xs ys n l e f = f ∙ e
 
 -- What stands in `out` behind one more part, if it is to be written.
@@ -66,10 +50,36 @@ abbrev pub shown : Bool → List ℕ → ℕ → List ℕ → List ℕ
 shown writing out size part = cond writing (written out size part) out
 
 -- Where the part fits, it is written.
-pub shown-fits : (writing : Bool) (out : List ℕ) (size : ℕ) (part : List ℕ) → (writing ≡ true → size + length part ≤ length out)
+shown-fits : (writing : Bool) (out : List ℕ) (size : ℕ) (part : List ℕ) → (writing ≡ true → size + length part ≤ length out)
     → cond writing (fittedAt out size part) out ≡ shown writing out size part
 shown-fits true out size part room = rw (le-leb (size + length part) (length out) (room refl))
 shown-fits false out size part room = refl
+
+-- What a piece made lies in the space that was lent: the front of it is the output, which is put behind what stands.
+pub record Lent (r : Fed) (place space : List ℕ) (f : Feeding) : Type 0 where
+  pub result-is : r ≡ fedOf f
+  pub space-is : space ≡ written place 0 (f .output)
+  pub most : r .written ≤ length place
+
+module _ {r : Fed} {place space : List ℕ} {f : Feeding} (m : Lent r place space f) where
+  pub count-is : r .written ≡ length (f .output)
+  count-is = ap (λ (x : Fed). x .written) (m .result-is)
+
+  pub space-same : length space ≡ length place
+  space-same = rw (m .space-is) (length-sets place 0 (f .output))
+
+  front-is : take (r .written) space ≡ f .output
+  front-is =
+      let out = f .output in
+      let fits : 0 + length out ≤ length place = omega (arith, count-is, m .most) in
+      rw (count-is, m .space-is, sets-eq out place 0 fits) (take-append-seam out (drop (0 + length out) place))
+
+  pub front-long : r .written ≡ length (take (r .written) space)
+  front-long = rw front-is count-is
+
+  pub front-put : (writing : Bool) (out : List ℕ) (size : ℕ) {out′ : List ℕ} → (writing ≡ true → size + length (f .output) ≤ length out)
+      → out′ ≡ cond writing (fittedAt out size (take (r .written) space)) out → out′ ≡ shown writing out size (f .output)
+  front-put writing out size room e = e ∙ rw front-is (shown-fits writing out size (f .output) room)
 
 -- And at its end.
 pub record Worked (input text : List ℕ) (writing : Bool) (out : List ℕ) (account : Account) (size : ℕ) : Type 0 where
@@ -79,19 +89,19 @@ pub record Worked (input text : List ℕ) (writing : Bool) (out : List ℕ) (acc
 
 module _ {input text : List ℕ} {writing : Bool} {out : List ℕ} {s : State} {taken size : ℕ}
     (w : Working input text writing out s taken size) (room : ℕ) where
+  abbrev before : List ℕ
+  before = made (take taken input)
+
   pub working-on : {out′ : List ℕ} → let f = feeding room s (drop taken input) in out′ ≡ shown writing out size (f .output)
       → Working input text writing out′ (f .state) (taken + f .taken) (size + length (f .output))
   working-on {out′} e =
       let f = feeding room s (drop taken input) in
-      let seen = take taken input in
-      let more = take (f .taken) (drop taken input) in
-      let next = stands-on seen (made seen) s room (drop taken input) (w .stands) in
-      let grown : made seen ++ f .output ≡ made (seen ++ more) = made-is (seen ++ more) (made seen ++ f .output) (f .state) next in
-      let done : made seen ++ f .output ≡ made (take (taken + f .taken) input) = grown ∙ ap made (sym (take-add taken (f .taken) input)) in
+      let next = stands-on (w .stands) room (drop taken input) in
+      let done : before ++ f .output ≡ made (take (taken + f .taken) input) = rw (take-add taken (f .taken) input) (made-is next) in
       record {
         stands = rw (← done, take-add taken (f .taken) input) next;
-        size-is = rw (← done, length-append (made seen) (f .output)) (ap (λ n. n + length (f .output)) (w .size-is));
-        out-is = rw (← done) (written-more writing text out out′ (made seen) (f .output) size (sym (w .size-is)) (w .out-is) e);
+        size-is = rw (← done, length-append before (f .output), ← w .size-is);
+        out-is = rw (← done) (written-more writing text out out′ before (f .output) size (sym (w .size-is)) (w .out-is) e);
       }
 
   pub working-end : {out′ : List ℕ} → longestAnswer ≤ room → length input ≤ taken
@@ -100,10 +110,10 @@ module _ {input text : List ℕ} {writing : Bool} {out : List ℕ} {s : State} {
   working-end {out′} r h e =
       let g = finishing room s in
       let all = take-all taken input h in
-      let ended = stands-end (take taken input) (made (take taken input)) s room r (w .stands) in
-      let done : made (take taken input) ++ g .output ≡ bill input = ended .out-is ∙ ap bill all in
+      let ended = stands-end (w .stands) room r in
+      let done : before ++ g .output ≡ bill input = ended .out-is ∙ ap bill all in
       record {
         account-is = ended .at-end .account-is ∙ ap (λ xs. accountAfter newAccount (linesOf xs)) all;
-        size-is = rw (← done, length-append (made (take taken input)) (g .output)) (ap (λ n. n + length (g .output)) (w .size-is));
-        out-is = rw (← done) (written-more writing text out out′ (made (take taken input)) (g .output) size (sym (w .size-is)) (w .out-is) e);
+        size-is = rw (← done, length-append before (g .output), ← w .size-is);
+        out-is = rw (← done) (written-more writing text out out′ before (g .output) size (sym (w .size-is)) (w .out-is) e);
       }

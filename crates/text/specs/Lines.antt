@@ -1,6 +1,6 @@
 -- A line ends at LF; a last line may lack it.
-use mathlib.Core.Bool.{cond}
 use mathlib.Core.List.{List, [], _∷_, _++_}
+use mathlib.Core.Bool.{cond}
 use Prim.Native.Nat.{ℕ, suc}
 use lib.Dec.{eqb}
 use Rattle.frames.specs.Digits.{lineFeed}

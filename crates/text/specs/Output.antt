@@ -1,21 +1,14 @@
 -- What the programs write for an input.
-use mathlib.Core.Bool.{cond}
-use mathlib.Core.List.{List, [], _∷_}
+use mathlib.Core.{Bool.cond, List.List, List.[], List._∷_}
 use Prim.Native.Nat.{ℕ, _+_, _-_, _^_}
-use lib.Dec.{leb}
-use lib.ListN.{length, take}
+use lib.{Dec.leb, ListN.length, ListN.take}
 use Rattle.lists.specs.Joined.{joined}
 use Rattle.ledger.specs.declared.Item.{Item}
-use Rattle.account.specs.declared.Account.{Account}
-use Rattle.account.specs.declared.Answer.{Answer}
+use Rattle.account.specs.{declared.Account.Account, declared.Answer.Answer, Calls.newAccount}
 use Rattle.intake.specs.declared.Call.{Call}
-use Rattle.account.specs.Calls.{newAccount}
-use Rattle.frames.specs.declared.Parsed.{Parsed}
-use Rattle.frames.specs.declared.Parsed.the-variants.{Frame, NotAFrame}
-use Rattle.frames.specs.Digits.{written}
+use Rattle.frames.specs.{declared.Parsed.Parsed, declared.Parsed.the-variants.Frame, declared.Parsed.the-variants.NotAFrame, Digits.written}
 use Rattle.frames.specs.Frames.{parsed}
-use Rattle.answers.specs.Answers.{answerLine}
-use Rattle.answers.specs.Notices.{noticeLine}
+use Rattle.answers.specs.{Answers.answerLine, Notices.noticeLine}
 use Rattle.lines.specs.Line.{lineOutcome}
 use Rattle.text.specs.Lines.{linesOf}
 

@@ -1,21 +1,17 @@
 -- An input fed in pieces, and both sums for its calls.
-use mathlib.Core.Path.{_≡_}
-use mathlib.Core.Bool.{cond}
 use mathlib.Core.List.{List, [], _∷_, _++_}
+use mathlib.Core.{Path._≡_, Bool.cond}
 use Prim.Native.Nat.{ℕ, _+_, min}
-use lib.Dec.{eqb}
-use lib.ListN.{length, take}
-use Rattle.lists.specs.Sum.{total}
-use Rattle.lists.specs.Joined.{joined}
+use lib.{Dec.eqb, ListN.length, ListN.take}
+use Rattle.lists.specs.{Sum.total, Joined.joined}
 use Rattle.account.specs.Calls.{newAccount}
-use Rattle.audit.specs.Book.{Book, prices}
 use Rattle.audit.specs.Claim.{start, run, finalVolume, unpaidOn}
+use Rattle.audit.specs.Book.{Book, prices}
 use Rattle.frames.specs.Digits.{lineFeed}
 use Rattle.answers.specs.Answers.{answerLine}
+use Rattle.lines.specs.Feeding.{blankLine, keptMost, lineOf, feeding}
 use Rattle.lines.specs.declared.State.{State}
-use Rattle.text.specs.Lines.{linesOf}
-use Rattle.text.specs.Output.{answersOf, accountAfter, callsOf}
-use Rattle.lines.specs.Feeding.{blankLine, lineOf, feeding}
+use Rattle.text.specs.{Lines.linesOf, Output.answersOf, Output.accountAfter, Output.callsOf}
 
 -- The lines that end in what came, behind the part of a line, and the part that it leaves.
 unfoldable pub linesIn : List ℕ → List ℕ → List (List ℕ)
@@ -32,9 +28,9 @@ made came = joined answerLine (answersOf newAccount (linesIn [] came))
 
 -- A state that keeps the first characters of a part of a line.
 pub record Holds (s : State) (part : List ℕ) : Type 0 where
-  pub line-is : lineOf s ≡ take 31 part
-  pub length-is : s .length ≡ min (length part) 31
-  pub line-long : length (s .line) ≡ 31
+  pub line-is : lineOf s ≡ take keptMost part
+  pub length-is : s .length ≡ min (length part) keptMost
+  pub line-long : length (s .line) ≡ keptMost
   pub clear : s .length ≡ 0 → s .line ≡ blankLine
 
 -- Where feeding stands: what was taken, and what was written for it.
@@ -87,4 +83,6 @@ bookOf lines = run start (callsOf lines) .book
 -- Demand 3 for an input: the volumes are those that its answers show, the account is the one that its last line leaves.
 pub record Sums (lines : List (List ℕ)) : Type 0 where
   pub volumes : total finalVolume (answersOf newAccount lines) ≡ bookOf lines .metering .advanced
-  pub yen : bookOf lines .money .received + unpaidOn (accountAfter newAccount lines) + accountAfter newAccount lines .ledger .held ≡ prices (bookOf lines .periods) + bookOf lines .money .arisen + accountAfter newAccount lines .ledger .credit
+  pub yen :
+      bookOf lines .money .received + unpaidOn (accountAfter newAccount lines) + accountAfter newAccount lines .ledger .held
+      ≡ prices (bookOf lines .periods) + bookOf lines .money .arisen + accountAfter newAccount lines .ledger .credit

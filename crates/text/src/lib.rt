@@ -6,6 +6,7 @@ ghost use lib.ListN.{length, take, drop};
 ghost use Rattle.account.specs.Calls.{newAccount};
 ghost use Rattle.frames.specs.Digits.{written};
 ghost use Rattle.answers.specs.Answers.{longestAnswer};
+ghost use Rattle.ledger.specs.Limits.{capacity};
 ghost use Rattle.answers.specs.Notices.{noticeLength};
 ghost use Rattle.text.specs.Output.{accountAfter, noticesOf, openNotices, bill, notice, longestInput, sizeOf, fittedAt, fitted, worked};
 ghost use Rattle.text.specs.Lines.{endsIn, linesOf};
@@ -20,90 +21,11 @@ pub struct Billed {
     pub size: usize,
 }
 
+// A notice and its LF.
+const NOTICE_LENGTH: usize = 35;
+
 // No file is longer.
 const LONGEST_INPUT: usize = 281_474_976_710_656;
-
-// The notices of an account's open items, and their length; where out is too short for it, nothing is written.
-pub fn put_notices(account: Account, out: &mut [u8]) -> usize
-    ensures { λ r. ⌜ r ≡ length (openNotices account) ⌝ }
-    ensures { λ _. ⌜ now (out .exit) ≡ fitted (now (out .entry)) (openNotices account) ⌝ }
-{
-    let ledger = account.ledger;
-    let size = 35 * shown_items(ledger.count);
-    if size <= out.len() {
-        put_items(ledger, out);
-    }
-    size
-}
-
-// The items of an array that counts them.
-fn shown_items(count: usize) -> usize
-    ensures { λ r. ⌜ r ≡ min count 72 ⌝ }
-{
-    if count < 72 { count } else { 72 }
-}
-
-fn put_items(ledger: Ledger, out: &mut [u8])
-    requires { ⌜ noticeLength * min (ledger .count) 72 ≤ length (now out) ⌝ }
-    ensures { λ _. ⌜ now (out .exit) ≡ written (now (out .entry)) 0 (noticesOf (take (ledger .count) (ledger .items))) ⌝ }
-{
-    let items = ledger.items;
-    let shown = shown_items(ledger.count);
-    let mut i: usize = 0;
-    while i < shown {
-        answers::put_notice(items[i], out, 35 * i);
-        i += 1;
-    }
-}
-
-// A part of the output, at its place, if it is to be written. It looks at the room that is left, and trusts no size measured before:
-// a caller in another language may have changed the input since.
-fn put_part(part: &[u8], out: &mut [u8], at: usize, writing: bool)
-    ensures { λ _. ⌜ now (out .exit) ≡ cond writing (fittedAt (now (out .entry)) at (now (part .entry))) (now (out .entry)) ⌝ }
-{
-    if !writing {
-        return;
-    }
-    if out.len() < at {
-        return;
-    }
-    if out.len() - at < part.len() {
-        return;
-    }
-    let mut i: usize = 0;
-    while i < part.len() {
-        out[at + i] = part[i];
-        i += 1;
-    }
-}
-
-// Works an input to its end, and writes what `bill` writes if that is asked.
-fn work_input(input: &[u8], out: &mut [u8], writing: bool) -> Billed
-    requires { ⌜ length (now input) ≤ longestInput ⌝ }
-    requires { ⌜ (writing ≡ true → length (bill (now input)) ≤ length (now out)) ⌝ }
-    ensures { λ r. ⌜ r ≡ record { account = accountAfter newAccount (linesOf (now (input .entry))); size = length (bill (now (input .entry))) } ⌝ }
-    ensures { λ _. ⌜ now (out .exit) ≡ cond writing (written (now (out .entry)) 0 (bill (now (input .entry)))) (now (out .entry)) ⌝ }
-{
-    let mut state = State::new();
-    let mut space = [0u8; 4096];
-    let mut taken: usize = 0;
-    let mut size: usize = 0;
-    while taken < input.len() {
-        let fed = feeding::feed(state, &input[taken..], &mut space);
-        let filled = fed.written;
-        put_part(&space[..filled], out, size, writing);
-        state = fed.state;
-        taken += fed.taken;
-        size += filled;
-    }
-    let last = feeding::finish(state, &mut space);
-    let filled = last.written;
-    put_part(&space[..filled], out, size, writing);
-    size += filled;
-    let end = last.state;
-    let account = end.account;
-    Billed { account, size }
-}
 
 // What `bill` writes for an input, and its size; where out is too short for it, nothing is written. Where there is room for the longest
 // answer to each line it is written as it is worked, and else measured first.
@@ -195,4 +117,86 @@ pub fn write_notice(input: &[u8], out: &mut [u8]) -> usize
     let worked = work_input(input, out, false);
     let account = worked.account;
     put_notices(account, out)
+}
+
+// Works an input to its end, and writes what `bill` writes if that is asked.
+fn work_input(input: &[u8], out: &mut [u8], writing: bool) -> Billed
+    requires { ⌜ length (now input) ≤ longestInput ⌝ }
+    requires { ⌜ (writing ≡ true → length (bill (now input)) ≤ length (now out)) ⌝ }
+    ensures { λ r. ⌜ r ≡ record { account = accountAfter newAccount (linesOf (now (input .entry))); size = length (bill (now (input .entry))) } ⌝ }
+    ensures { λ _. ⌜ now (out .exit) ≡ cond writing (written (now (out .entry)) 0 (bill (now (input .entry)))) (now (out .entry)) ⌝ }
+{
+    let mut state = State::new();
+    let mut space = [0u8; 4096];
+    let mut taken: usize = 0;
+    let mut size: usize = 0;
+    while taken < input.len() {
+        let fed = feeding::feed(state, &input[taken..], &mut space);
+        let filled = fed.written;
+        put_part(&space[..filled], out, size, writing);
+        state = fed.state;
+        taken += fed.taken;
+        size += filled;
+    }
+    let last = feeding::finish(state, &mut space);
+    let filled = last.written;
+    put_part(&space[..filled], out, size, writing);
+    size += filled;
+    let end = last.state;
+    let account = end.account;
+    Billed { account, size }
+}
+
+// A part of the output, at its place, if it is to be written. It looks at the room that is left, and trusts no size measured before:
+// a caller in another language may have changed the input since.
+fn put_part(part: &[u8], out: &mut [u8], at: usize, writing: bool)
+    ensures { λ _. ⌜ now (out .exit) ≡ cond writing (fittedAt (now (out .entry)) at (now (part .entry))) (now (out .entry)) ⌝ }
+{
+    if !writing {
+        return;
+    }
+    if out.len() < at {
+        return;
+    }
+    if out.len() - at < part.len() {
+        return;
+    }
+    let mut i: usize = 0;
+    while i < part.len() {
+        out[at + i] = part[i];
+        i += 1;
+    }
+}
+
+// The notices of an account's open items, and their length; where out is too short for it, nothing is written.
+pub fn put_notices(account: Account, out: &mut [u8]) -> usize
+    ensures { λ r. ⌜ r ≡ length (openNotices account) ⌝ }
+    ensures { λ _. ⌜ now (out .exit) ≡ fitted (now (out .entry)) (openNotices account) ⌝ }
+{
+    let ledger = account.ledger;
+    let size = NOTICE_LENGTH * shown_items(ledger.count);
+    if size <= out.len() {
+        put_items(ledger, out);
+    }
+    size
+}
+
+fn put_items(ledger: Ledger, out: &mut [u8])
+    requires { ⌜ noticeLength * min (ledger .count) capacity ≤ length (now out) ⌝ }
+    ensures { λ _. ⌜ now (out .exit) ≡ written (now (out .entry)) 0 (noticesOf (take (ledger .count) (ledger .items))) ⌝ }
+{
+    let items = ledger.items;
+    let shown = shown_items(ledger.count);
+    let mut i: usize = 0;
+    while i < shown {
+        answers::put_notice(items[i], out, NOTICE_LENGTH * i);
+        i += 1;
+    }
+}
+
+// The items of an array that counts them.
+fn shown_items(count: usize) -> usize
+    ensures { λ r. ⌜ r ≡ min count capacity ⌝ }
+{
+    if count < 72 { count } else { 72 }
 }

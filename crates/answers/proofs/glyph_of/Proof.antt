@@ -1,6 +1,4 @@
-use mathlib.Core.Path.{refl}
-use borrow.Author.Tests.{lt-ltb, le-ltb}
-use borrow.Author.Needs.{needs}
+use Rattle.common.proofs.Words.{lt-ltb, le-ltb, needs}
 use Rattle.answers.proofs.glyph_of.Statement.{statement}
 use Rattle.answers.proofs.glyph_of.Tie as tie
 
@@ -10,5 +8,5 @@ glyph-of-spec =
     (tie.spec
     (λ c. search needs)  -- add-result
     (λ c. search needs)  -- add-result-2
-    (λ c. rw (lt-ltb _ 10 (c .if1 .taken)) refl)  -- returns
-    (λ c. rw (le-ltb _ 10 (c .if1 .left)) refl))  -- returns-2
+    (λ c. rw (lt-ltb _ 10 (c .if1 .taken)))  -- returns
+    (λ c. rw (le-ltb _ 10 (c .if1 .left))))  -- returns-2

@@ -1,34 +1,36 @@
-use mathlib.Core.Path.{_≡_, refl, _∙_}
-use Prim.Native.Nat.{_+_, _-_, _*_, _≤_}
-use native.Mathlib.Omega.{arith}
-use lib.ListN.{length, set, length-set}
-use Rattle.answers.proofs.Pairs.{Pairs, pairs-next}
-use Rattle.answers.proofs.pair_table.Statement.{statement}
+-- One byte after another; the table has the pairs of those so far (`pairs-next`).
+use Rattle.common.proofs.Words.{_≡_, refl, _-_, _≤_, arith, length, length-set}
+use Rattle.answers.proofs.{Pairs.Pairs, Pairs.pairs-next, pair_table.Statement.statement}
 use Rattle.answers.proofs.pair_table.Tie as tie
 
 abbrev Inv-loop : tie.InvT-loop
-Inv-loop pairs₀ byte₀ pairs byte = (byte ≤ 256) × (length pairs ≡ 512) × Pairs pairs byte
+Inv-loop pairs₀ byte₀ pairs byte = record { within : byte ≤ 256; long : length pairs ≡ 512; shown : Pairs pairs byte }
 
 abbrev μ-loop : tie.MeasureT-loop
 μ-loop pairs₀ byte₀ pairs byte = 256 - byte
 
-loop-holds : tie.Need-loop-holds Inv-loop μ-loop
-loop-holds c = (omega arith, refl, record { high = λ b h. absurd (omega arith); low = λ b h. absurd (omega arith) })
+abbrev Walk : (tie.InvT-loop → tie.MeasureT-loop → Type 0) → Type 0
+Walk T = T Inv-loop μ-loop
 
-loop-again : tie.Need-loop-again Inv-loop μ-loop
-loop-again c = let l = c .before .before .before .loop in
-    let high = c .before .glyph-of .result in
-    let low = c .glyph-of2 .result in
-    let high-set = set (l .pairs) (2 * l .byte) high in (
-      omega arith,
-      length-set high-set (2 * l .byte + 1) low ∙ length-set (l .pairs) (2 * l .byte) high ∙ l .inv .1,
-      rw (c .before .glyph-of .ensures, c .glyph-of2 .ensures) (pairs-next (l .pairs) (l .byte) (omega arith) (l .inv .2)),
-    )
+loop-holds : Walk tie.Need-loop-holds
+loop-holds c =
+    record { within = omega arith; long = refl; shown = record { high = λ b h. absurd (omega arith); low = λ b h. absurd (omega arith) } }
 
-returns : tie.Need-returns Inv-loop μ-loop
-returns c = let done : c .before .loop .byte ≡ 256 = omega arith in
-    let all : Pairs (c .before .loop .pairs) 256 = rw done at (c .before .loop .inv .2) in
-    record { long = c .before .loop .inv .1; high = all .high; low = all .low }
+loop-again : Walk tie.Need-loop-again
+loop-again c =
+    let l = c .before .before .before .loop in
+    record {
+      within = omega arith;
+      long = simp length-set (l .inv .long);
+      shown = rw (c .before .glyph-of .ensures, c .glyph-of2 .ensures) (pairs-next (l .pairs) (l .byte) (omega arith) (l .inv .shown));
+    }
+
+returns : Walk tie.Need-returns
+returns c =
+    let l = c .before .loop in
+    let done : l .byte ≡ 256 = omega arith in
+    let all : Pairs (l .pairs) 256 = rw done at (l .inv .shown) in
+    record { long = l .inv .long; high = all .high; low = all .low }
 
 pub pair-table-spec : {M : Type 1} → statement M
 pair-table-spec =

@@ -1,35 +1,27 @@
-use mathlib.Core.Path.{_≡_, sym, _∙_}
-use mathlib.Core.List.{_++_}
-use Rattle.calendar.specs.declared.FoundDate.the-variants.{Date, None}
-use Rattle.calendar.specs.Conversions.{toDate}
-use Rattle.frames.specs.Digits.{digits}
-use Rattle.answers.proofs.Writing.{written-on}
-use Rattle.frames.proofs.Digits.{length-digits, length-behind}
-use borrow.Author.Needs.{needs}
-use Rattle.answers.proofs.put_date.Statement.{statement}
+-- Year, month and day one behind the other, or eight zeros.
+use Rattle.common.proofs.Words.{needs}
+use Rattle.answers.proofs.{Writing.put-first, Writing.put-more, Writing.digits-sized, put_date.Statement.statement}
 use Rattle.answers.proofs.put_date.Tie as tie
 
-date-is : (c : tie.After-found) → toDate (c .before .before .before .before .args .day) ≡ Date (c .found .given .0 .0)
-date-is c = sym (c .before .before .to-date .ensures) ∙ c .found .given .1
-
-none-is : (c : tie.After-enum-told) → toDate (c .before .before .before .before .args .day) ≡ None
-none-is c = sym (c .before .before .to-date .ensures) ∙ c .enum-told .given .1
-
 returns : tie.Need-returns
-returns c = let three : tie.After-put-digits3 = search in
-    let two : tie.After-put-digits2 = search in
+returns c =
     let one : tie.After-put-digits = search in
+    let two : tie.After-put-digits2 = search in
+    let three : tie.After-put-digits3 = search in
     let found : tie.After-found = search one in
+    let called : tie.After-to-date = search in
     let date = found .found .given .0 .0 in
-    let start = found .before .before .before .before in
-    let text = start .args .out .now in
-    let at = start .args .at in
-    let year = digits 10 4 (date .year) in
-    let month = digits 10 2 (date .month) in
-    let year-long = length-digits 10 4 (date .year) in
-    let both-long = length-behind year month 4 2 year-long (length-digits 10 2 (date .month)) in
-    let both = written-on text at year month 4 year-long (one .put-digits .ensures) (two .put-digits2 .ensures) in
-    rw (date-is found) (written-on text at (year ++ month) (digits 10 2 (date .day)) 6 both-long both (three .put-digits3 .ensures))
+    let a = called .before .before .args in
+    let year = put-first (a .out .now) (a .at) (digits-sized 10 4 (date .year)) (one .put-digits .ensures) in
+    let month = put-more year (digits-sized 10 2 (date .month)) (two .put-digits2 .ensures) in
+    rw (← called .to-date .ensures, found .found .given .1)
+    (put-more month (digits-sized 10 2 (date .day)) (three .put-digits3 .ensures) .stands)
+
+returns-2 : tie.Need-returns-2
+returns-2 c =
+    let none : tie.After-enum-told = search in
+    let called : tie.After-to-date = search in
+    rw (← called .to-date .ensures, none .enum-told .given .1) (c .before .before .put-digits4 .ensures)
 
 pub put-date-spec : {M : Type 1} → statement M
 put-date-spec =
@@ -50,4 +42,4 @@ put-date-spec =
     (λ c. search needs)  -- same-length
     returns
     (λ c. search needs)  -- same-length-2
-    (λ c. rw (none-is (c .before .before .before .before)) (c .before .before .put-digits4 .ensures)))  -- returns-2
+    returns-2)

@@ -1,25 +1,18 @@
 -- Three numbers, one behind the other.
-use mathlib.Core.List.{_++_}
-use borrow.Author.Needs.{needs}
-use Rattle.frames.specs.Digits.{bytes}
-use Rattle.answers.proofs.Writing.{written-on}
-use Rattle.frames.proofs.Digits.{length-digits, length-behind}
-use Rattle.answers.proofs.put_head.Statement.{statement}
+use Rattle.common.proofs.Words.{needs}
+use Rattle.answers.proofs.{Writing.put-first, Writing.put-more, Writing.digits-sized, put_head.Statement.statement}
 use Rattle.answers.proofs.put_head.Tie as tie
 
 returns : tie.Need-returns
-returns c = let start : tie.Start = search in
+returns c =
+    let s : tie.Start = search in
     let one : tie.After-put-byte = search in
     let two : tie.After-put-word = search in
     let three : tie.After-put-byte2 = search in
-    let text = start .args .out .now in
-    let at = start .args .at in
-    let number = bytes 1 (start .args .number) in
-    let estimated = bytes 4 (start .args .estimated) in
-    let number-long = length-digits 16 2 (start .args .number) in
-    let both-long = length-behind number estimated 2 8 number-long (length-digits 16 8 (start .args .estimated)) in
-    let both = written-on text at number estimated 2 number-long (one .put-byte .ensures) (two .put-word .ensures) in
-    written-on text at (number ++ estimated) (bytes 1 (start .args .count)) 10 both-long both (three .put-byte2 .ensures)
+    let a = s .args in
+    let number = put-first (a .out .now) (a .at) (digits-sized 16 2 (a .number)) (one .put-byte .ensures) in
+    let both = put-more number (digits-sized 16 8 (a .estimated)) (two .put-word .ensures) in
+    put-more both (digits-sized 16 2 (a .count)) (three .put-byte2 .ensures) .stands
 
 pub put-head-spec : {M : Type 1} → statement M
 put-head-spec =

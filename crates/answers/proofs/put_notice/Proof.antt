@@ -1,15 +1,11 @@
-use mathlib.Core.Path.{_≡_, refl, ap, _∙_}
-use mathlib.Core.List.{List, [], _∷_, _++_}
-use Rattle.frames.specs.Digits.{bytes, written}
-use Rattle.answers.proofs.Writing.{written-on, length-date}
-use Rattle.frames.proofs.Digits.{length-digits, length-behind}
-use Prim.Native.Nat.{ℕ, _+_}
-use lib.ListN.{length, set}
-use lib.Seq.{length-sets}
+-- Kind, two dates, the amount and LF, one behind the other.
+use Rattle.common.proofs.Words.{refl, ap, _∙_, _+_, set, needs}
 use Rattle.calendar.specs.Conversions.{toDate}
-use Rattle.answers.specs.Notices.{kindNumber, dateDigits, noticeLine}
-use borrow.Author.Needs.{needs}
+use Rattle.frames.specs.Digits.{bytes, written, lineFeed}
+use Rattle.answers.specs.Notices.{kindNumber, noticeLine, noticeLength}
+use Rattle.answers.proofs.Writing.{Put, put-first, put-more, put-last, put-length, digits-sized, date-sized}
 use Rattle.answers.proofs.put_notice.Statement.{statement}
+use Rattle.answers.proofs.put_notice.Lts
 use Rattle.answers.proofs.put_notice.Tie as tie
 
 module _ (c : tie.After-slice-known5) where
@@ -28,32 +24,17 @@ module _ (c : tie.After-slice-known5) where
   abbrev start : tie.Start
   start = kind .before .before .before .before
 
-  abbrev out-last : List ℕ
-  out-last = set (unpaid .put-digits2 .last .0) (start .args .at + 34) 10
+  open Lts.Args (start .args) using (item, out, at)
 
-  whole-line : out-last ≡ written (start .args .out .now) (start .args .at) (noticeLine (start .args .item))
+  whole : Put (out .now) at (noticeLine item) noticeLength (set (unpaid .put-digits2 .last .0) (at + 34) lineFeed)
   unfolding noticeLine
-  whole-line =
-      let item = start .args .item in
-      let text = start .args .out .now in
-      let at = start .args .at in
-      let kind-text = bytes 1 (kindNumber (item .kind)) in
-      let obligation-text = dateDigits (toDate (item .obligation)) in
-      let due-text = dateDigits (toDate (item .due)) in
-      let unpaid-text = bytes 8 (item .unpaid) in
-      let two-text = kind-text ++ obligation-text in
-      let kind-long = length-digits 16 2 (kindNumber (item .kind)) in
-      let two-long = length-behind kind-text obligation-text 2 8 kind-long (length-date (toDate (item .obligation))) in
-      let three-long = length-behind two-text due-text 10 8 two-long (length-date (toDate (item .due))) in
-      let all-long = length-behind (two-text ++ due-text) unpaid-text 18 16 three-long (length-digits 16 16 (item .unpaid)) in
-      let one = kind .put-digits .ensures ∙ ap (λ n. written text at (bytes 1 n)) (kind .before .kind-number .ensures) in
-      let two = written-on text at kind-text obligation-text 2 kind-long one (obligation .put-date .ensures) in
-      let three = written-on text at two-text due-text 10 two-long two (due .put-date2 .ensures) in
-      let four = written-on text at (two-text ++ due-text) unpaid-text 18 three-long three (unpaid .put-digits2 .ensures) in
-      written-on text at (two-text ++ due-text ++ unpaid-text) (10 ∷ []) 34 all-long four refl
-
-  same : length out-last ≡ length (start .args .out .now)
-  same = ap length whole-line ∙ length-sets (start .args .out .now) (start .args .at) (noticeLine (start .args .item))
+  whole =
+      let same = ap (λ n. written (out .now) at (bytes 1 n)) (kind .before .kind-number .ensures) in
+      let one = put-first (out .now) at (digits-sized 16 2 (kindNumber (item .kind))) (kind .put-digits .ensures ∙ same) in
+      let two = put-more one (date-sized (toDate (item .obligation))) (obligation .put-date .ensures) in
+      let three = put-more two (date-sized (toDate (item .due))) (due .put-date2 .ensures) in
+      let four = put-more three (digits-sized 16 16 (item .unpaid)) (unpaid .put-digits2 .ensures) in
+      put-last four lineFeed refl
 
 pub put-notice-spec : {M : Type 1} → statement M
 put-notice-spec =
@@ -69,5 +50,5 @@ put-notice-spec =
     (λ c κs. search needs)  -- put-digits-requires-2
     (λ c. search needs)  -- add-out
     (λ c. search needs)  -- slice-write-out
-    same  -- same-length
-    whole-line)  -- returns
+    (λ c. put-length (whole c))  -- same-length
+    (λ c. whole c .stands))  -- returns

@@ -1,22 +1,21 @@
--- The loop has written the volumes so far; an eighth is none.
-use mathlib.Core.Path.{_≡_, refl}
-use mathlib.Core.List.{List}
-use Prim.Native.Nat.{ℕ, _*_, _-_, _≤_}
-use native.Mathlib.Omega.{arith}
-use lib.ListN.{getD, length, take}
-use borrow.Author.Needs.{needs}
-use Rattle.lists.proofs.Pad.{take-past}
-use Rattle.lists.proofs.Joined.{joined-next, joined-taken}
+-- One volume behind the other; an eighth is none. Invariant: the bytes of the volumes so far stand, eight characters each. One turn is
+-- `joined-put`; where the count is above seven, all seven are written (`take-past`).
+use Rattle.common.proofs.Words.{_≡_, refl, List, ℕ, _*_, _-_, _≤_, _<_, arith, length, take, needs}
+use Rattle.lists.proofs.{Pad.take-past, Joined.joined-taken}
 use Rattle.frames.specs.Digits.{bytes, written}
 use Rattle.answers.specs.Answers.{volumesBytes}
-use Rattle.answers.proofs.Writing.{written-on}
+use Rattle.answers.proofs.{Writing.joined-put, put_volumes.Statement.statement}
 use Rattle.frames.proofs.Digits.{length-digits}
-use Rattle.answers.proofs.put_volumes.Statement.{statement}
 use Rattle.answers.proofs.put_volumes.Tie as tie
 
 abbrev Inv-loop : tie.InvT-loop
 Inv-loop out₀ at pairs volumes count i₀ out i =
-    (i ≤ count) × (i ≤ 7) × (length out ≡ length out₀) × (out ≡ written out₀ at (volumesBytes (take i volumes)))
+    record {
+      within : i ≤ count;
+      most : i ≤ 7;
+      long : length out ≡ length out₀;
+      stands : out ≡ written out₀ at (volumesBytes (take i volumes));
+    }
 
 abbrev μ-loop : tie.MeasureT-loop
 μ-loop out₀ at pairs volumes count i₀ out i = count - i
@@ -24,39 +23,42 @@ abbrev μ-loop : tie.MeasureT-loop
 abbrev Walk : (tie.InvT-loop → tie.MeasureT-loop → Type 0) → Type 0
 Walk T = T Inv-loop μ-loop
 
-abbrev start : Walk tie.At-loop → Walk tie.Start
-start l = l .before .before
+module _ (l : Walk tie.At-loop) where
+  abbrev start : Walk tie.Start
+  start = l .before .before
 
-abbrev lent : Walk tie.At-loop → List ℕ
-lent l = start l .args .volumes .now
+  abbrev lent : List ℕ
+  lent = start .args .volumes .now
 
-long : (l : Walk tie.At-loop) → length (lent l) ≡ 7
-long l = start l .pre .0
+  long : length lent ≡ 7
+  long = start .pre .0
 
-size-of : (l : Walk tie.At-loop) (i : ℕ) → i ≤ 7 → length (volumesBytes (take i (lent l))) ≡ 8 * i
-size-of l i h = joined-taken (bytes 4) 8 (length-digits 16 8) (lent l) i (omega (arith, long l))
+  size-of : (i : ℕ) → i ≤ 7 → length (volumesBytes (take i lent)) ≡ 8 * i
+  size-of i h = joined-taken (bytes 4) 8 (length-digits 16 8) lent i (omega (arith, long))
 
 returns : Walk tie.Need-returns
-returns c = let l : Walk tie.At-loop = search in
+returns c =
+    let l : Walk tie.At-loop = search in
     let all : take (start l .args .count) (lent l) ≡ take 7 (lent l) = take-past (start l .args .count) 7 (lent l) (long l) (omega arith) in
     let seven : l .loop .i ≡ 7 = omega arith in
-    rw (all, size-of l 7 (omega arith)) (rw seven at (l .loop .inv .3), (refl, omega arith))
+    rw (all, size-of l 7 (omega arith)) (rw seven at (l .loop .inv .stands), (refl, omega arith))
 
 loop-again : Walk tie.Need-loop-again
-loop-again c = let l : Walk tie.At-loop = search in
+loop-again c =
+    let l : Walk tie.At-loop = search in
     let put : Walk tie.After-put-volume = search in
-    let i = l .loop .i in
-    let so-far = volumesBytes (take i (lent l)) in
-    let volume = bytes 4 (getD (lent l) i 0) in
     let a = start l .args in
-    let size = size-of l i (omega arith) in
-    let more = written-on (a .out .now) (a .at) so-far volume (8 * i) size (l .loop .inv .3) (put .put-volume .ensures) in
-    (omega arith, omega arith, search needs, rw (joined-next (bytes 4) (lent l) i 0 (omega (arith, long l))) more)
+    let i = l .loop .i in
+    let here : i < length (lent l) = omega (arith, long l) in
+    let more = joined-put (bytes 4) 8 (length-digits 16 8) (lent l) i 0 (a .out .now) (a .at) here in
+    let stands = more (l .loop .inv .stands) (put .put-volume .ensures) in
+    record { within = omega arith; most = omega arith; long = search needs; stands = stands }
 
 returns-2 : Walk tie.Need-returns-2
-returns-2 c = let l : Walk tie.At-loop = search in
+returns-2 c =
+    let l : Walk tie.At-loop = search in
     let done : l .loop .i ≡ start l .args .count = omega arith in
-    rw (← done, size-of l (l .loop .i) (omega arith)) (l .loop .inv .3, (refl, omega arith))
+    rw (← done, size-of l (l .loop .i) (omega arith)) (l .loop .inv .stands, (refl, omega arith))
 
 pub put-volumes-spec : {M : Type 1} → statement M
 put-volumes-spec =
@@ -64,9 +66,9 @@ put-volumes-spec =
     (tie.spec
     Inv-loop
     μ-loop
-    (λ c. (omega arith, omega arith, refl, refl))  -- loop-holds
+    (λ c. record { within = omega arith; most = omega arith; long = refl; stands = refl })  -- loop-holds
     (λ c. omega arith)  -- add-result
-    (λ c. search (c .before .before .loop .inv .2, needs))  -- same-length
+    (λ c. c .before .before .loop .inv .long)  -- same-length
     returns
     (λ c. omega arith)  -- mul-put-volume
     (λ c. omega arith)  -- add-put-volume
@@ -78,5 +80,5 @@ put-volumes-spec =
     loop-again
     (λ c. omega arith)  -- mul-result
     (λ c. omega arith)  -- add-result-2
-    (λ c. search (c .before .loop .inv .2, needs))  -- same-length-2
+    (λ c. c .before .loop .inv .long)  -- same-length-2
     returns-2)

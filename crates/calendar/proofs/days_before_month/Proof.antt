@@ -1,16 +1,19 @@
-use mathlib.Core.Path.{sym, _∙_}
-use Prim.Native.Nat.{_-_}
-use native.Mathlib.Omega.{arith}
-use borrow.Author.Needs.{needs}
+use Rattle.common.proofs.Words.{sym, _∙_, _-_, arith, needs}
 use Rattle.calendar.proofs.Table.{early-month, leap-month, common-month, table-most}
 use Rattle.calendar.proofs.days_before_month.Statement.{statement}
 use Rattle.calendar.proofs.days_before_month.Tie as tie
 
 returns-2 : tie.Need-returns-2
-returns-2 c = leap-month (c .before .before .before .args .year) (c .before .before .before .args .month) (c .before .before .if1 .left) (c .before .before .before .pre .1 .1) (sym (c .before .is-leap .ensures) ∙ c .if2 .taken)
+returns-2 c =
+    let e = c .before .before in
+    let s = e .before in
+    leap-month (s .args .year) (s .args .month) (e .if1 .left) (s .pre .1 .1) (sym (c .before .is-leap .ensures) ∙ c .if2 .taken)
 
 returns-3 : tie.Need-returns-3
-returns-3 c = common-month (c .before .before .before .args .year) (c .before .before .before .args .month) (c .before .before .if1 .left) (c .before .before .before .pre .1 .1) (sym (c .before .is-leap .ensures) ∙ c .if2 .left)
+returns-3 c =
+    let e = c .before .before in
+    let s = e .before in
+    common-month (s .args .year) (s .args .month) (e .if1 .left) (s .pre .1 .1) (sym (c .before .is-leap .ensures) ∙ c .if2 .left)
 
 pub days-before-month-spec : {M : Type 1} → statement M
 days-before-month-spec =

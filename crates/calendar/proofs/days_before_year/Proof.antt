@@ -1,7 +1,5 @@
-use mathlib.Core.Path.{sym}
-use borrow.Author.Needs.{needs}
-use Rattle.calendar.proofs.Years.{days-before-year}
-use Rattle.calendar.proofs.days_before_year.Statement.{statement}
+use Rattle.common.proofs.Words.{sym, needs}
+use Rattle.calendar.proofs.{Years.days-before-year, days_before_year.Statement.statement}
 use Rattle.calendar.proofs.days_before_year.Tie as tie
 
 pub days-before-year-spec : {M : Type 1} → statement M

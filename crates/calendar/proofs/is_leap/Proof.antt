@@ -1,6 +1,5 @@
-use mathlib.Core.Path.{sym}
-use Rattle.calendar.proofs.Years.{leap-in-century}
-use Rattle.calendar.proofs.is_leap.Statement.{statement}
+use Rattle.common.proofs.Words.{sym}
+use Rattle.calendar.proofs.{Years.leap-in-century, is_leap.Statement.statement}
 use Rattle.calendar.proofs.is_leap.Tie as tie
 
 pub is-leap-spec : {M : Type 1} → statement M

@@ -1,34 +1,43 @@
-use mathlib.Core.Path.{_≡_, sym}
-use Prim.Native.Nat.{ℕ, _<_, _+_, _≤_, _-_}
-use native.Mathlib.Numerals.{add-one}
-use native.Mathlib.Omega.{arith}
-use Rattle.calendar.specs.Gregorian.{yearLength, monthLength, dateAt, daysBeforeYear, daysBeforeMonth}
+use Rattle.common.proofs.Words.{_≡_, sym, ℕ, _+_, _-_, _≤_, _<_, arith}
+use Rattle.calendar.specs.Gregorian.{monthLength, dateAt, daysBeforeYear, daysBeforeMonth}
 use Rattle.calendar.specs.Conversions.{IsMonth}
-use Rattle.calendar.proofs.Months.{next-month, year-begins, year-end}
-use Rattle.calendar.proofs.Dates.{month-at}
-use Rattle.calendar.proofs.month_of.Statement.{statement}
+use Rattle.calendar.proofs.{Months.next-month, Months.year-begins, Months.year-end, Dates.month-at, month_of.Statement.statement}
+use Rattle.calendar.proofs.month_of.Lts
 use Rattle.calendar.proofs.month_of.Tie as tie
 
-lies : (year month day-of-year : ℕ) → 2000 ≤ year → day-of-year < yearLength year → IsMonth month → daysBeforeMonth year month ≤ day-of-year → day-of-year < daysBeforeMonth year month + monthLength year month → month ≡ dateAt (daysBeforeYear year + day-of-year) .month
-lies year month day-of-year h within w low high = sym (month-at year month day-of-year h within (record { is-month = w; begun = low; not-over = high }))
-
 abbrev Inv-loop : tie.InvT-loop
-Inv-loop year day-of-year month₀ month = IsMonth month × (daysBeforeMonth year month ≤ day-of-year)
+Inv-loop year day-of-year month₀ month = record { is-month : IsMonth month; begun : daysBeforeMonth year month ≤ day-of-year }
 
 abbrev μ-loop : tie.MeasureT-loop
 μ-loop year day-of-year month₀ month = 12 - month
 
-returns : tie.Need-returns Inv-loop μ-loop
-returns c = let month = c .before .before .before .loop .month in
-    lies (c .before .before .before .before .args .year) month (c .before .before .before .before .args .day-of-year) (c .before .before .before .before .pre .0 .from-2000) (c .before .before .before .before .pre .1) (c .before .before .before .loop .inv .0) (c .before .before .before .loop .inv .1)
-    (omega (arith, rw (add-one month) at (c .before .days-before-month .ensures), next-month (c .before .before .before .before .args .year) month (c .before .before .before .loop .inv .0)))
+abbrev Walk : (tie.InvT-loop → tie.MeasureT-loop → Type 0) → Type 0
+Walk T = T Inv-loop μ-loop
 
-returns-2 : tie.Need-returns-2 Inv-loop μ-loop
-returns-2 c = let month = c .before .loop .month in
-    let december : month ≡ 12 = omega arith in
-    let start = c .before .before in
-    lies (start .args .year) month (start .args .day-of-year) (start .pre .0 .from-2000) (start .pre .1) (c .before .loop .inv .0) (c .before .loop .inv .1)
-    (rw december (omega (arith, start .pre .1, next-month (start .args .year) 12 (omega arith), year-end (start .args .year))))
+-- A month that has begun and is not over is the one looked for.
+module _ (l : Walk tie.At-loop) where
+  open Lts.Args (l .before .args) using (year, day-of-year)
+
+  abbrev month : ℕ
+  month = l .loop .month
+
+  found : day-of-year < daysBeforeMonth year month + monthLength year month → month ≡ dateAt (daysBeforeYear year + day-of-year) .month
+  found over =
+      let s = l .before in
+      let inv = l .loop .inv in
+      sym (month-at (s .pre .0 .from-2000) (s .pre .1) (record { is-month = inv .is-month; begun = inv .begun; not-over = over }))
+
+returns : Walk tie.Need-returns
+returns c =
+    let l : Walk tie.At-loop = search in
+    found l (omega (arith, c .before .days-before-month .ensures, next-month (l .before .args .year) (month l) (l .loop .inv .is-month)))
+
+returns-2 : Walk tie.Need-returns-2
+returns-2 c =
+    let s = c .before .before in
+    let december : c .before .loop .month ≡ 12 = omega arith in
+    let ends = next-month (s .args .year) 12 (omega arith) in
+    found (c .before) (rw december (omega (arith, s .pre .1, ends, year-end (s .args .year))))
 
 pub month-of-spec : {M : Type 1} → statement M
 month-of-spec =
@@ -36,11 +45,11 @@ month-of-spec =
     (tie.spec
     Inv-loop
     μ-loop
-    (λ c. (omega arith, omega (arith, year-begins (c .args .year))))  -- loop-holds
+    (λ c. omega (arith, year-begins (c .args .year)))  -- loop-holds
     (λ c. omega arith)  -- add-days-before-month
     (λ c κs. (c .before .before .pre .0, omega arith))  -- days-before-month-requires
     returns
     (λ c. omega arith)  -- add-month
     (λ c. omega arith)  -- loop-less
-    (λ c. (omega arith, omega (arith, c .before .days-before-month .ensures)))  -- loop-again
+    (λ c. omega (arith, c .before .days-before-month .ensures))  -- loop-again
     returns-2)

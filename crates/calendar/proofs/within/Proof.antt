@@ -1,4 +1,4 @@
-use borrow.Author.Tests.{le-leb, lt-leb}
+use Rattle.common.proofs.Words.{le-leb, lt-leb}
 use Rattle.calendar.proofs.within.Statement.{statement}
 use Rattle.calendar.proofs.within.Tie as tie
 
@@ -6,5 +6,5 @@ pub within-spec : {M : Type 1} → statement M
 within-spec =
     tie.close
     (tie.spec
-    (λ c. rw (le-leb (c .before .args .low) (c .before .args .n) (c .if1 .taken)))  -- returns
-    (λ c. rw (lt-leb (c .before .args .low) (c .before .args .n) (c .if1 .left))))  -- returns-2
+    (λ c. rw (le-leb _ _ (c .if1 .taken)))  -- returns
+    (λ c. rw (lt-leb _ _ (c .if1 .left))))  -- returns-2

@@ -1,9 +1,4 @@
-use mathlib.Core.Path.{sym, ap, subst}
-use Prim.Native.Nat.{_≤_}
-use native.Mathlib.Omega.{arith}
-use lib.ListN.{length}
-use lib.Seq.{length-take-le}
-use borrow.Author.Needs.{needs}
+use Rattle.common.proofs.Words.{sym, ap, subst, _≤_, arith, length, length-take-le, needs}
 use Rattle.lines.specs.declared.Fed.{Fed}
 use Rattle.text.specs.Pieces.{AtEnd}
 use Rattle.text.proofs.Pieces.{follows-end, behind-ready}

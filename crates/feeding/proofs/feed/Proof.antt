@@ -1,97 +1,105 @@
 -- The account's parts are spread, the lines worked on them, and the account gathered: it is the account that it was, and the one that its
 -- parts stand for.
-use mathlib.Core.Path.{_≡_, refl, sym, ap, subst, _∙_}
-use mathlib.Core.List.{List}
-use lib.ListN.{length}
-use borrow.Author.Needs.{needs}
+use Rattle.common.proofs.Words.{_≡_, refl, sym, ap, subst, _∙_, List, ℕ, length, needs}
 use Rattle.lists.proofs.Pad.{length-of-mapped}
-use Rattle.ledger.specs.declared.Item.{Item}
-use Rattle.ledger.specs.Limits.{capacity}
-use Rattle.ledger.specs.Numbers.{queueIn}
-use Rattle.lanes.specs.Lanes.{rows}
+use Rattle.ledger.specs.{declared.Item.Item, declared.Queue.Queue, Limits.capacity}
 use Rattle.ledger.proofs.Queues.{Spread}
+use Rattle.lanes.specs.Lanes.{rows}
 use Rattle.lanes.proofs.Rows.{rows-long}
-use Rattle.account.proofs.Ready.{count-most, open-bounds}
-use Rattle.feeding.proofs.Reached.{reached-whole}
+use Rattle.intake.specs.declared.Head.{Head}
 use Rattle.account.specs.declared.Account.{Account}
-use Rattle.frames.specs.Digits.{written}
-use Rattle.lines.specs.declared.Fed.{Fed}
-use Rattle.lines.specs.Going.{state}
-use Rattle.feeding.specs.Working.{accountIn, Lain, Runs, fedIn}
-use Rattle.feeding.specs.Reached.{Ready}
+use Rattle.account.proofs.Ready.{count-most, open-bounds}
+use Rattle.lines.specs.{declared.Fed.Fed, declared.State.State, Feeding.keptMost, Going.state}
+use Rattle.feeding.specs.Working.{accountIn, Lain, Runs, fedIn, handedBack}
+use Rattle.feeding.specs.Reached.{Reached, Ready}
 use Rattle.feeding.proofs.Entering.{account-spread, lain-spread, lain-few, account-gathered}
-use Rattle.feeding.proofs.feed.Statement.{statement}
+use Rattle.feeding.proofs.{Reached.reached-whole, feed.Statement.statement}
 use Rattle.feeding.proofs.feed.Tie as tie
+
+-- The places that statements name.
+abbrev start-at : tie.After-spread → tie.Start
+start-at c = c .before .before .before .before .before .before .before .before .before
+
+abbrev spread-at : tie.After-queue-in → tie.After-spread
+spread-at c = c .before .before .before
+
+abbrev queue-at : tie.After-feed-lines → tie.After-queue-in
+queue-at c = c .before .before .before .before .before .before
 
 long : (s : tie.Start) → length (s .args .state .account .ledger .items) ≡ capacity
 long s = search (length-of-mapped, needs)
 
-line-long : (s : tie.Start) → length (s .args .state .line) ≡ 31
+line-long : (s : tie.Start) → length (s .args .state .line) ≡ keptMost
 line-long s = search needs
 
 -- The items are spread.
 module _ (c : tie.After-spread) where
-  abbrev start : tie.Start
-  start = c .before .before .before .before .before .before .before .before .before
+  abbrev state₀ : State
+  state₀ = start-at c .args .state
 
   abbrev account : Account
-  account = start .args .state .account
+  account = state₀ .account
 
   abbrev items : List Item
   items = rows (c .spread .last .1 .0) (c .spread .last .1 .1 .0) (c .spread .last .1 .1 .1 .0)
 
+  reached : Reached account
+  reached = start-at c .pre .reached
+
   spreads : Spread (account .ledger) items
   spreads =
       record {
-        ledger-long = long start;
-        count-most = count-most account (reached-whole account (start .pre .reached));
+        ledger-long = long (start-at c);
+        count-most = count-most account (reached-whole account reached);
         long = rows-long (c .spread .ensures .1);
         front = c .spread .ensures .0;
       }
 
 -- The head and the queue are taken.
 module _ (c : tie.After-queue-in) where
-  abbrev spread-at : tie.After-spread
-  spread-at = c .before .before .before
+  abbrev p : tie.After-spread
+  p = spread-at c
 
-  lain : Lain (items spread-at) (c .queue-in .result) (c .before .head-of .result) (account spread-at .estimates)
-  lain =
-      subst (λ q. Lain (items spread-at) q (c .before .head-of .result) (account spread-at .estimates)) (sym (c .queue-in .ensures))
-      (subst (λ h. Lain (items spread-at) (queueIn (account spread-at .ledger)) h (account spread-at .estimates)) (sym (c .before .head-of .ensures))
-      (lain-spread (account spread-at) (start spread-at .pre .reached) (items spread-at) (spreads spread-at)))
+  abbrev head : Head
+  head = c .before .head-of .result
 
-  state-is : state (accountIn (items spread-at) (c .queue-in .result) (c .before .head-of .result) (account spread-at .estimates)) (start spread-at .args .state .length) (start spread-at .args .state .line) ≡ start spread-at .args .state
+  abbrev queue : Queue
+  queue = c .queue-in .result
+
+  lain : Lain (items p) queue head (account p .estimates)
+  lain = lain-spread (reached p) (spreads p) (c .before .head-of .ensures) (c .queue-in .ensures)
+
+  state-is : state (accountIn (items p) queue head (account p .estimates)) (state₀ p .length) (state₀ p .line) ≡ state₀ p
   state-is =
-      let is = (λ i. accountIn (items spread-at) (c .queue-in .ensures i) (c .before .head-of .ensures i) (account spread-at .estimates)) ∙ account-spread (account spread-at) (start spread-at .pre .reached) (items spread-at) (spreads spread-at) in
-      ap (λ a. state a (start spread-at .args .state .length) (start spread-at .args .state .line)) is
+      ap (λ a. state a (state₀ p .length) (state₀ p .line))
+      (account-spread (reached p) (spreads p) (c .before .head-of .ensures) (c .queue-in .ensures))
 
 -- The lines are worked.
 module _ (c : tie.After-feed-lines) where
-  abbrev taken-at : tie.After-queue-in
-  taken-at = c .before .before .before .before .before .before
-
   abbrev s : tie.Start
-  s = start (spread-at taken-at)
+  s = start-at (spread-at (queue-at c))
 
   abbrev after : List Item
-  after = rows (c .feed-lines .last .1 .1 .1 .1 .1 .1 .1 .0) (c .feed-lines .last .1 .1 .1 .1 .1 .1 .1 .1 .0) (c .feed-lines .last .1 .1 .1 .1 .1 .1 .1 .1 .1 .0)
+  after =
+      let last = c .feed-lines .last .1 .1 .1 .1 .1 .1 .1 in
+      rows (last .0) (last .1 .0) (last .1 .1 .0)
 
-  runs : Runs (s .args .input .now) (s .args .out .now) (s .args .state) after (c .feed-lines .last .1 .1 .1 .1 .0) (c .feed-lines .last .1 .1 .1 .1 .1 .1 .0) (c .feed-lines .result)
-  runs = subst (λ x. Runs (s .args .input .now) (s .args .out .now) x after (c .feed-lines .last .1 .1 .1 .1 .0) (c .feed-lines .last .1 .1 .1 .1 .1 .1 .0) (c .feed-lines .result)) (state-is taken-at) (c .feed-lines .ensures .0)
+  abbrev line : List ℕ
+  line = c .feed-lines .last .1 .1 .1 .1 .0
 
-queue-in-requires : tie.Need-queue-in-requires
-queue-in-requires c κs =
-    let p : tie.After-spread = search in
-    open-bounds (account p) (reached-whole (account p) (start p .pre .reached))
+  abbrev out : List ℕ
+  out = c .feed-lines .last .1 .1 .1 .1 .1 .1 .0
 
-slice-aggregate-feed-lines : tie.Need-slice-aggregate-feed-lines
-slice-aggregate-feed-lines c = let p : tie.After-spread = search in sym (line-long (start p))
+  runs : Runs (s .args .input .now) (s .args .out .now) (s .args .state) after line out (c .feed-lines .result)
+  runs =
+      subst (λ x. Runs (s .args .input .now) (s .args .out .now) x after line out (c .feed-lines .result))
+      (state-is (queue-at c)) (c .feed-lines .ensures .0)
 
 feed-lines-requires : tie.Need-feed-lines-requires
 feed-lines-requires c κs =
     let q : tie.After-queue-in = search in
     let p = spread-at q in
-    (p .spread .ensures .1, (lain q, (line-long (start p), start p .pre .clear)))
+    record { long = p .spread .ensures .1; lain = lain q; line-long = line-long (start-at p); clear = start-at p .pre .clear }
 
 gathered-requires : tie.Need-gathered-requires
 gathered-requires c κs =
@@ -103,12 +111,15 @@ returns : tie.Need-returns
 returns c =
     let f : tie.After-feed-lines = search in
     let g : tie.After-gathered = search in
-    let r = f .feed-lines .result in
+    let w = f .feed-lines .result in
     let run = runs f in
-    let line = f .feed-lines .last .1 .1 .1 .1 .0 in
-    let is = account-gathered (run .lain) (g .gathered .result) (g .gathered .ensures) in
-    let same : c .handed-back .result ≡ fedIn (after f) line r = c .handed-back .ensures ∙ (λ i. record { state = state (is i) (r .length) line; taken = r .taken; written = r .written }) in
-    (same ∙ run .fed, (run .text-is, (rw same (run .taken-most, run .written-most), subst (λ (x : Fed). Ready (x .state)) (sym same) (record { reached = run .lain .reached; clear = run .clear }))))
+    let is = account-gathered (run .lain) (g .gathered .ensures) in
+    let gathers : handedBack w (g .gathered .result) (line f) ≡ fedIn (after f) (line f) w =
+    λ i. record { state = state (is i) (w .length) (line f); taken = w .taken; written = w .written }
+    in
+    let same = c .handed-back .ensures ∙ gathers in
+    let ready = subst (λ (x : Fed). Ready (x .state)) (sym same) (record { reached = run .lain .reached; clear = run .clear }) in
+    (same ∙ run .fed, (run .text-is, (rw same (run .taken-most, run .written-most), ready)))
 
 pub feed-spec : {M : Type 1} → statement M
 feed-spec =
@@ -116,8 +127,8 @@ feed-spec =
     (tie.spec
     (λ c κs. record { unpaid-long = refl; amount-long = refl; label-long = refl })  -- spread-requires
     (λ c κs. tt)  -- head-of-requires
-    queue-in-requires
-    slice-aggregate-feed-lines
+    (λ c κs. let p : tie.After-spread = search in open-bounds (account p) (reached-whole (account p) (reached p)))  -- queue-in-requires
+    (λ c. let p : tie.After-spread = search in sym (line-long (start-at p)))  -- slice-aggregate-feed-lines
     feed-lines-requires
     gathered-requires
     (λ c κs. tt)  -- handed-back-requires

@@ -1,16 +1,20 @@
-use native.Mathlib.Omega.{arith}
-use lib.ListN.{length}
-use mathlib.Core.Path.{refl}
+use Rattle.common.proofs.Words.{refl, arith, length, needs}
 use Rattle.lines.proofs.Feeding.{finish-none, finish-line}
-use borrow.Author.Needs.{needs}
 use Rattle.feeding.proofs.finish.Statement.{statement}
 use Rattle.feeding.proofs.finish.Tie as tie
 
 returns : tie.Need-returns
-returns c = rw (finish-none (length (c .before .before .before .args .out .now)) (c .before .before .before .args .state) (c .if1 .taken)) (refl, (refl, omega arith))
+returns c =
+    let s : tie.Start = search in
+    rw (finish-none (length (s .args .out .now)) (s .args .state) (c .if1 .taken)) (refl, (refl, omega arith))
 
 returns-2 : tie.Need-returns-2
-returns-2 c = rw (finish-line (length (c .before .before .before .before .before .before .before .before .args .out .now)) (c .before .before .before .before .before .before .before .before .args .state) (c .before .before .before .before .before .if1 .left)) (c .before .before .feed .ensures .0, (c .before .before .feed .ensures .1 .0, c .before .before .feed .ensures .1 .1 .0 .1))
+returns-2 c =
+    let s : tie.Start = search in
+    let e : tie.Else1 = search in
+    let f : tie.After-feed = search in
+    rw (finish-line (length (s .args .out .now)) (s .args .state) (e .if1 .left))
+    (f .feed .ensures .0, (f .feed .ensures .1 .0, f .feed .ensures .1 .1 .0 .1))
 
 pub finish-spec : {M : Type 1} → statement M
 finish-spec =

@@ -1,6 +1,6 @@
-use mathlib.Core.Path.{ap, _∙_}
-use borrow.Author.Needs.{needs}
+use Rattle.common.proofs.Words.{ap, _∙_, needs}
 use Rattle.account.specs.Calls.{accountOf}
+use Rattle.lines.specs.Going.{state}
 use Rattle.feeding.proofs.handed_back.Statement.{statement}
 use Rattle.feeding.proofs.handed_back.Tie as tie
 
@@ -9,7 +9,7 @@ returns c =
     let s : tie.Start = search in
     let w = s .args .went in
     let is = c .account-of .ensures ∙ ap (accountOf (w .head) (w .estimates)) (c .before .ledger-of .ensures) in
-    λ i. record { state = record { account = is i; length = w .length; line = s .args .line }; taken = w .taken; written = w .written }
+    λ i. record { state = state (is i) (w .length) (s .args .line); taken = w .taken; written = w .written }
 
 pub handed-back-spec : {M : Type 1} → statement M
 handed-back-spec =

@@ -1,5 +1,4 @@
-use mathlib.Core.Path.{refl}
-use borrow.Author.Tests.{eq-eqb, ne-eqb}
+use Rattle.common.proofs.Words.{refl, eq-eqb, ne-eqb}
 use Rattle.feeding.proofs.head_after.Statement.{statement}
 use Rattle.feeding.proofs.head_after.Tie as tie
 

@@ -1,8 +1,6 @@
-use mathlib.Core.Path.{_≡_, sym, subst}
-use mathlib.Core.Bool.{false≢true, true}
+use Rattle.common.proofs.Words.{_≡_, sym, subst, false≢true, true, needs}
 use Rattle.plan.specs.Plans.{reads}
 use Rattle.frames.proofs.Numbers.{parsed-frame}
-use borrow.Author.Needs.{needs}
 use Rattle.feeding.proofs.looks_back.Statement.{statement}
 use Rattle.feeding.proofs.looks_back.Tie as tie
 
@@ -12,7 +10,10 @@ returns-3 c =
     let e : tie.Else2 = search in
     let made : tie.After-call-of = search in
     let is = made .call-of .ensures in (
-      λ t. record { frame = parsed-frame (s .args .fields) (e .if2 .left); reading = subst (λ call. reads call ≡ true) is (c .over .ensures .0 t) },
+      λ t. record {
+        frame = parsed-frame (s .args .fields) (e .if2 .left);
+        reading = subst (λ call. reads call ≡ true) is (c .over .ensures .0 t);
+      },
       λ f n reading. c .over .ensures .1 f (subst (λ call. reads call ≡ true) (sym is) reading),
     )
 

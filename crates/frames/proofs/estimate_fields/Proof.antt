@@ -1,34 +1,16 @@
 -- Each field is read in its place, so what is sound lies there, by `read-at`.
-use mathlib.Core.Path.{refl}
-use native.Mathlib.Omega.{arith}
-use borrow.Author.Needs.{needs}
-use Rattle.frames.specs.Numbers.{widths, fieldsOf}
-use Rattle.frames.proofs.Numbers.{estimate-form, Placed, read-at}
-use Rattle.frames.proofs.estimate_fields.Statement.{statement}
+use Rattle.common.proofs.Words.{refl, needs}
+use Rattle.frames.proofs.{Numbers.estimate-form, Numbers.read-at, estimate_fields.Statement.statement}
 use Rattle.frames.proofs.estimate_fields.Tie as tie
 
 returns : tie.Need-returns
-returns c = let start : tie.Start = search in
-    let input = start .args .input .now in
-    let at = start .args .at in
-    let kind = start .args .kind in
-    let day-read : tie.After-field = search in
-    let first-read : tie.After-field2 = search in
-    let second-read : tie.After-field3 = search in
-    let read = fieldsOf 22 kind (day-read .field .result) (first-read .field2 .result) (second-read .field3 .result) 0 0 in
-    let placed : Placed input at (widths 8 8 0 0) read =
-    record {
-      begins = start .pre .0;
-      form = estimate-form kind (start .pre .1 .1);
-      within = omega arith;
-      width-is = refl;
-      day-is = day-read .field .ensures;
-      first-is = first-read .field2 .ensures;
-      second-is = second-read .field3 .ensures;
-      third-is = refl;
-      short-is = refl;
-    } in
-    read-at input at (widths 8 8 0 0) read placed (c .checked .result) (c .checked .ensures)
+returns c =
+    let s : tie.Start = search in
+    let day : tie.After-field = search in
+    let first : tie.After-field2 = search in
+    let second : tie.After-field3 = search in
+    read-at (s .pre .0) (estimate-form (s .pre .1 .1))
+    (day .field .ensures) (first .field2 .ensures) (second .field3 .ensures) refl refl (c .checked .ensures)
 
 pub estimate-fields-spec : {M : Type 1} → statement M
 estimate-fields-spec =

@@ -1,36 +1,17 @@
 -- Each field is read in its place, so what is sound lies there, by `read-at`.
-use mathlib.Core.Path.{refl}
-use native.Mathlib.Omega.{arith}
-use borrow.Author.Needs.{needs}
-use Rattle.frames.specs.Numbers.{widths, fieldsOf}
-use Rattle.frames.proofs.Numbers.{exchange-form, Placed, read-at}
-use Rattle.frames.proofs.exchange_fields.Statement.{statement}
+use Rattle.common.proofs.Words.{refl, needs}
+use Rattle.frames.proofs.{Numbers.exchange-form, Numbers.read-at, exchange_fields.Statement.statement}
 use Rattle.frames.proofs.exchange_fields.Tie as tie
 
 returns : tie.Need-returns
-returns c = let start : tie.Start = search in
-    let input = start .args .input .now in
-    let at = start .args .at in
-    let kind = start .args .kind in
-    let day-read : tie.After-field = search in
-    let first-read : tie.After-field2 = search in
-    let second-read : tie.After-field3 = search in
-    let short-read : tie.After-field4 = search in
-    let read =
-    fieldsOf 24 kind (day-read .field .result) (first-read .field2 .result) (second-read .field3 .result) 0 (short-read .field4 .result) in
-    let placed : Placed input at (widths 8 8 0 2) read =
-    record {
-      begins = start .pre .0;
-      form = exchange-form kind (start .pre .1 .1);
-      within = omega arith;
-      width-is = refl;
-      day-is = day-read .field .ensures;
-      first-is = first-read .field2 .ensures;
-      second-is = second-read .field3 .ensures;
-      third-is = refl;
-      short-is = short-read .field4 .ensures;
-    } in
-    read-at input at (widths 8 8 0 2) read placed (c .checked .result) (c .checked .ensures)
+returns c =
+    let s : tie.Start = search in
+    let day : tie.After-field = search in
+    let first : tie.After-field2 = search in
+    let second : tie.After-field3 = search in
+    let short : tie.After-field4 = search in
+    read-at (s .pre .0) (exchange-form (s .pre .1 .1))
+    (day .field .ensures) (first .field2 .ensures) (second .field3 .ensures) refl (short .field4 .ensures) (c .checked .ensures)
 
 pub exchange-fields-spec : {M : Type 1} → statement M
 exchange-fields-spec =

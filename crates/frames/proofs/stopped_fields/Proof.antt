@@ -1,32 +1,13 @@
 -- Each field is read in its place, so what is sound lies there, by `read-at`.
-use mathlib.Core.Path.{refl}
-use native.Mathlib.Omega.{arith}
-use borrow.Author.Needs.{needs}
-use Rattle.frames.specs.Numbers.{widths, fieldsOf}
-use Rattle.frames.proofs.Numbers.{stopped-form, Placed, read-at}
-use Rattle.frames.proofs.stopped_fields.Statement.{statement}
+use Rattle.common.proofs.Words.{refl, needs}
+use Rattle.frames.proofs.{Numbers.stopped-form, Numbers.read-at, stopped_fields.Statement.statement}
 use Rattle.frames.proofs.stopped_fields.Tie as tie
 
 returns : tie.Need-returns
-returns c = let start : tie.Start = search in
-    let input = start .args .input .now in
-    let at = start .args .at in
-    let kind = start .args .kind in
-    let day-read : tie.After-field = search in
-    let read = fieldsOf 6 kind (day-read .field .result) 0 0 0 0 in
-    let placed : Placed input at (widths 0 0 0 0) read =
-    record {
-      begins = start .pre .0;
-      form = stopped-form kind (start .pre .1 .1);
-      within = omega arith;
-      width-is = refl;
-      day-is = day-read .field .ensures;
-      first-is = refl;
-      second-is = refl;
-      third-is = refl;
-      short-is = refl;
-    } in
-    read-at input at (widths 0 0 0 0) read placed (c .checked .result) (c .checked .ensures)
+returns c =
+    let s : tie.Start = search in
+    let day : tie.After-field = search in
+    read-at (s .pre .0) (stopped-form (s .pre .1 .1)) (day .field .ensures) refl refl refl refl (c .checked .ensures)
 
 pub stopped-fields-spec : {M : Type 1} → statement M
 stopped-fields-spec =

@@ -1,66 +1,10 @@
 -- A row a kind; any other character has none, by `no-form`.
-use mathlib.Core.Path.{_≡_, sym, _∙_}
-use mathlib.Core.Logic.{inl, inr, ⊎-elim}
-use native.Mathlib.Omega.{arith}
-use borrow.Author.Needs.{needs}
+use Rattle.common.proofs.Words.{sym, _∙_, inl, inr, needs}
+use Rattle.frames.specs.Layout.{layout}
 use Rattle.frames.proofs.Numbers.{closing-form, estimate-form, dial-form, exchange-form, payment-form, stopped-form, no-form}
+use Rattle.frames.proofs.Numbers.{no-kind}
 use Rattle.frames.proofs.widths_of.Statement.{statement}
 use Rattle.frames.proofs.widths_of.Tie as tie
-
-returns : tie.Need-returns
-returns c = let k : c .before .before .args .kind ≡ 49 = omega arith in
-    c .sized .ensures ∙ sym (dial-form (c .before .before .args .kind) (inl k) .is)
-
-returns-2 : tie.Need-returns-2
-returns-2 c = let k : c .before .before .args .kind ≡ 50 = omega arith in
-    c .sized2 .ensures ∙ sym (closing-form (c .before .before .args .kind) (inl k) .is)
-
-returns-3 : tie.Need-returns-3
-returns-3 c = let k : c .before .before .args .kind ≡ 51 = omega arith in
-    c .sized3 .ensures ∙ sym (estimate-form (c .before .before .args .kind) (inl k) .is)
-
-returns-4 : tie.Need-returns-4
-returns-4 c = let k : c .before .before .args .kind ≡ 52 = omega arith in
-    c .sized4 .ensures ∙ sym (estimate-form (c .before .before .args .kind) (inr k) .is)
-
-returns-5 : tie.Need-returns-5
-returns-5 c = let k : c .before .before .args .kind ≡ 53 = omega arith in
-    c .sized5 .ensures ∙ sym (exchange-form (c .before .before .args .kind) k .is)
-
-returns-6 : tie.Need-returns-6
-returns-6 c = let k : c .before .before .args .kind ≡ 54 = omega arith in
-    c .sized6 .ensures ∙ sym (closing-form (c .before .before .args .kind) (inr (inl k)) .is)
-
-returns-7 : tie.Need-returns-7
-returns-7 c = let k : c .before .before .args .kind ≡ 55 = omega arith in
-    c .sized7 .ensures ∙ sym (dial-form (c .before .before .args .kind) (inr k) .is)
-
-returns-8 : tie.Need-returns-8
-returns-8 c = let k : c .before .before .args .kind ≡ 56 = omega arith in
-    c .sized8 .ensures ∙ sym (closing-form (c .before .before .args .kind) (inr (inr k)) .is)
-
-returns-9 : tie.Need-returns-9
-returns-9 c = let k : c .before .before .args .kind ≡ 57 = omega arith in
-    c .sized9 .ensures ∙ sym (payment-form (c .before .before .args .kind) k .is)
-
-returns-10 : tie.Need-returns-10
-returns-10 c = let k : c .before .before .args .kind ≡ 97 = omega arith in
-    c .sized10 .ensures ∙ sym (stopped-form (c .before .before .args .kind) k .is)
-
-returns-11 : tie.Need-returns-11
-returns-11 c =
-    sym (no-form (c .before .args .kind)
-    (⊎-elim (c .match .rest .0 .0 .0 .0 .0 .0 .0 .0 .0 .1)
-    (⊎-elim (c .match .rest .0 .0 .0 .0 .0 .0 .0 .0 .1)
-    (⊎-elim (c .match .rest .0 .0 .0 .0 .0 .0 .0 .1)
-    (⊎-elim (c .match .rest .0 .0 .0 .0 .0 .0 .1)
-    (⊎-elim (c .match .rest .0 .0 .0 .0 .0 .1)
-    (⊎-elim (c .match .rest .0 .0 .0 .0 .1)
-    (⊎-elim (c .match .rest .0 .0 .0 .1)
-    (⊎-elim (c .match .rest .0 .0 .1)
-    (⊎-elim (c .match .rest .0 .1)
-    (⊎-elim (c .match .rest .1)
-    (λ n. n))))))))))))
 
 pub widths-of-spec : {M : Type 1} → statement M
 widths-of-spec =
@@ -76,14 +20,14 @@ widths-of-spec =
     (λ c κs. search needs)  -- sized-requires-8
     (λ c κs. search needs)  -- sized-requires-9
     (λ c κs. search needs)  -- sized-requires-10
-    returns
-    returns-2
-    returns-3
-    returns-4
-    returns-5
-    returns-6
-    returns-7
-    returns-8
-    returns-9
-    returns-10
-    returns-11)
+    (λ c. c .sized .ensures ∙ sym (dial-form (inl (c .before .match .keys1)) .is))  -- returns
+    (λ c. c .sized2 .ensures ∙ sym (closing-form (inl (c .before .match .keys2)) .is))  -- returns-2
+    (λ c. c .sized3 .ensures ∙ sym (estimate-form (inl (c .before .match .keys3)) .is))  -- returns-3
+    (λ c. c .sized4 .ensures ∙ sym (estimate-form (inr (c .before .match .keys4)) .is))  -- returns-4
+    (λ c. c .sized5 .ensures ∙ sym (exchange-form (c .before .match .keys5) .is))  -- returns-5
+    (λ c. c .sized6 .ensures ∙ sym (closing-form (inr (inl (c .before .match .keys6))) .is))  -- returns-6
+    (λ c. c .sized7 .ensures ∙ sym (dial-form (inr (c .before .match .keys7)) .is))  -- returns-7
+    (λ c. c .sized8 .ensures ∙ sym (closing-form (inr (inr (c .before .match .keys8))) .is))  -- returns-8
+    (λ c. c .sized9 .ensures ∙ sym (payment-form (c .before .match .keys9) .is))  -- returns-9
+    (λ c. c .sized10 .ensures ∙ sym (stopped-form (c .before .match .keys10) .is))  -- returns-10
+    (λ c. sym (no-form _ (no-kind layout (c .before .args .kind) (search depth 20)))))  -- returns-11

@@ -1,18 +1,13 @@
 -- Money covers items and the numbers are settled; an entry that they refuse touches nothing. Else four stores: less is unpaid
 -- of the oldest item that stays, and each posting goes behind the last (`paid-lie` .. `arisen-lie`, by what `post_item` ensures).
 -- What then lies there is what the numbers say, and by `after-stands` and `after-lies` that is what the definition says.
-use mathlib.Core.Path.{_≡_, sym, ap, _∙_}
-use mathlib.Core.List.{List, _++_}
-use Prim.Native.Nat.{_+_, _-_, _≤_, _<_}
-use native.Mathlib.Omega.{arith}
-use lib.ListN.{length, getD, set, length-set}
-use borrow.Author.Needs.{needs}
-use Rattle.ledger.specs.Limits.{capacity, lanePlaces}
-use Rattle.ledger.specs.declared.Item.{Item}
-use Rattle.ledger.specs.Entries.{next}
+use Rattle.common.proofs.Words.{_≡_, sym, ap, _∙_, List, _++_, _+_, _-_, _≤_, _<_, arith, length, getD, set, length-set, needs}
 use Rattle.ledger.specs.Numbers.{places, lessPaid, lying, Lies}
+use Rattle.ledger.specs.{Limits.capacity, Limits.lanePlaces, Limits.mostEnd, declared.Item.Item, Entries.next}
 use Rattle.ledger.proofs.Places.{part, part-oldest, part-later, places-most}
-use Rattle.ledger.proofs.Queues.{Entering, Settling, stood, covered-within, settle-bounds, part-count, oldest, staying, stayed, held-item, charge-item, arisen-item, After, number-of, oldest-within, end-is, after-stands, after-lies, few-after, interest-is, interest-fits, next-asked, next-same, front-same, front-lies}
+use Rattle.ledger.proofs.Queues.{Entering, Settling, stood, covered-within, settle-bounds, part-count, oldest, staying, stayed, held-item}
+use Rattle.ledger.proofs.Queues.{charge-item, arisen-item, After, number-of, oldest-within, end-is, after-stands, after-lies, few-after}
+use Rattle.ledger.proofs.Queues.{interest-is, interest-fits, next-asked, next-same, front-same, front-lies}
 use Rattle.lanes.specs.Lanes.{rows}
 use Rattle.lanes.proofs.Rows.{rows-in, rows-long, row-reduced, row-unpaid}
 use Rattle.lanes.proofs.enter.Statement.{statement}
@@ -33,9 +28,9 @@ entering c =
       queue = s .args .queue;
       entry = s .args .entry;
       cover = c .cover .result;
-      fit = s .pre .1 .0;
-      room = s .pre .1 .1 .0;
-      bounds = s .pre .1 .1 .1;
+      fit = s .pre .0 .fit;
+      room = s .pre .0 .room;
+      bounds = s .pre .1;
       covers = c .cover .ensures;
     }
 
@@ -58,10 +53,10 @@ inside : (k : Entering) → k .queue .front + k .cover .covered < lanePlaces
 inside k = omega (arith, covered-within k, k .room)
 
 -- The places of the postings stay inside.
-held-most : (c : tie.After-post-item) → c .post-item .result ≤ 254
+held-most : (c : tie.After-post-item) → c .post-item .result ≤ mostEnd + 1
 held-most c = omega (arith, c .post-item .ensures .0, places-most (work c .settled .heldleft), work c .entering .room)
 
-charge-most : (c : tie.After-post-item2) → c .post-item2 .result ≤ 255
+charge-most : (c : tie.After-post-item2) → c .post-item2 .result ≤ mostEnd + 2
 charge-most c = omega (arith, c .post-item2 .ensures .0, places-most (work (first c) .settled .chargeleft), held-most (first c))
 
 -- What lies there from the oldest item on that stays, store by store.
@@ -73,10 +68,10 @@ paid-lie : (d : tie.After-settle-numbers) →
 paid-lie d =
     let k = settling d in
     let q = k .entering .queue in
-    let long = begun (d .before) .pre .0 in
+    let long = begun (d .before) .pre .0 .long in
     let paid = k .settled .paid in
     let in-rows : oldest k < length (k .entering .items) = rw (rows-long long) (inside (k .entering)) in
-    ap (part (oldest k) (staying k)) (row-reduced long (oldest k) paid (inside (k .entering))) ∙
+    ap (part (oldest k) (staying k)) (row-reduced long (oldest k) (inside (k .entering)) paid) ∙
     part-oldest (oldest k) (staying k) paid (k .entering .items) in-rows ∙
     ap (lessPaid paid) (part-later (q .front) (q .count) (k .entering .cover .covered) (k .entering .items))
 
@@ -85,7 +80,7 @@ owes-it : (d : tie.After-settle-numbers) →
     k .settled .paid ≤ getD (begun (d .before) .args .unpaid .now) (oldest k) 0
 owes-it d =
     let k = settling d in
-    rw (row-unpaid (begun (d .before) .pre .0) (oldest k) (inside (k .entering))) at (oldest-within k)
+    rw (row-unpaid (begun (d .before) .pre .0 .long) (oldest k) (inside (k .entering))) at (oldest-within k)
 
 held-lie : (c : tie.After-post-item) →
     let k = work c in
@@ -136,13 +131,19 @@ module _ (c : tie.After-post-item3) where
       after-stands k put arisen-lie ∙ sym (next-asked (k .entering .entry) (stood (k .entering)) (sym (number-of k) ∙ none))
 
 few-before : (s : tie.Start) → s .args .queue .count ≤ capacity
-few-before s = let fit = s .pre .1 .0 in omega (arith, part-count (fit .lies), fit .within .count-most)
+few-before s = let fit = s .pre .0 .fit in omega (arith, part-count (fit .lies), fit .within .count-most)
 
 cover-requires : tie.Need-cover-requires
 cover-requires c κs =
     let s : tie.Start = search in
-    let fit = s .pre .1 .0 in
-    (s .pre .0, (fit .lies .end-most, (few-before s, (s .pre .1 .1 .1 .day-most, fit .within .items-within))))
+    let fit = s .pre .0 .fit in
+    record {
+      long = s .pre .0 .long;
+      end-most = fit .lies .end-most;
+      few = few-before s;
+      day-most = s .pre .1 .day-most;
+      bounds = fit .within .items-within;
+    }
 
 -- refused
 returns : tie.Need-returns
@@ -153,20 +154,20 @@ returns c =
       record {
         number-is = number;
         stands = sym (next-same (s .args .entry) (lying (lain s) (s .args .queue)) (λ z. c .if1 .taken (number ∙ z)));
-        lies = s .pre .1 .0 .lies;
+        lies = s .pre .0 .fit .lies;
         interest-is = λ z. absurd (c .if1 .taken z);
         few = few-before s;
-        room = s .pre .1 .1 .0;
+        room = s .pre .0 .room;
       },
-      s .pre .0,
+      s .pre .0 .long,
     )
 
 post-item-requires : tie.Need-post-item-requires
 post-item-requires c κs =
     let s : tie.Start = search in
-    let long = s .pre .0 in (
+    let long = s .pre .0 .long in (
       record { unpaid-long = simp length-set (long .unpaid-long); amount-long = long .amount-long; label-long = long .label-long },
-      (omega (arith, s .pre .1 .1 .0), s .pre .1 .1 .1 .day-most),
+      (omega (arith, s .pre .0 .room), s .pre .1 .day-most),
     )
 
 post-item-requires-2 : tie.Need-post-item-requires-2
@@ -227,7 +228,7 @@ enter-spec =
     (λ c. let k : tie.After-cover = search in inside (entering k))  -- element-copy-out-unpaid
     (λ c. let d : tie.After-settle-numbers = search in owes-it d)  -- sub-unpaid
     (λ c. let k : tie.After-cover = search in inside (entering k))  -- element-write-unpaid
-    (λ c. let s : tie.Start = search in record { fits = omega (arith, s .pre .1 .1 .0) })  -- add-first
+    (λ c. let s : tie.Start = search in record { fits = omega (arith, s .pre .0 .room) })  -- add-first
     post-item-requires
     post-item-requires-2
     post-item-requires-3

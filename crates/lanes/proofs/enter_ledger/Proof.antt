@@ -1,22 +1,12 @@
 -- The items are spread over the lanes, the entry is worked there, and what lies there then is gathered. What stands on the lanes is
 -- what stands on the ledger, before (`spread-stands`) and after (`gathered-is`).
-use mathlib.Core.Path.{_≡_, refl, sym, ap, subst, _∙_}
-use mathlib.Core.List.{List}
-use Prim.Native.Nat.{_+_}
-use native.Mathlib.Omega.{arith}
-use lib.ListN.{length}
-use borrow.Author.Needs.{needs}
+use Rattle.common.proofs.Words.{_≡_, refl, sym, ap, subst, _∙_, List, _+_, arith, length, needs}
 use Rattle.lists.proofs.Pad.{length-of-mapped}
-use Rattle.ledger.specs.declared.Item.{Item}
-use Rattle.ledger.specs.declared.Queue.{Queue}
-use Rattle.ledger.specs.Limits.{capacity}
-use Rattle.ledger.specs.Settling.{unpaidOf}
-use Rattle.ledger.specs.Posting.{Standing, standing, stored}
 use Rattle.ledger.specs.Entries.{asked, numberOf, next, interestPosted}
-use Rattle.ledger.specs.Numbers.{ledgerOf, lying, Fit}
+use Rattle.ledger.specs.{declared.Item.Item, declared.Queue.Queue, Limits.capacity, Settling.unpaidOf}
+use Rattle.ledger.specs.{Posting.Standing, Posting.standing, Posting.stored, Numbers.ledgerOf, Numbers.lying, Numbers.Fit}
 use Rattle.ledger.proofs.Queues.{Spread, spread-stands, spread-fits, gathered-is}
-use Rattle.lanes.proofs.Rows.{rows-in, rows-long}
-use Rattle.lanes.proofs.enter_ledger.Statement.{statement}
+use Rattle.lanes.proofs.{Rows.rows-in, Rows.rows-long, enter_ledger.Statement.statement}
 use Rattle.lanes.proofs.enter_ledger.Tie as tie
 
 -- Places: the items are spread, and the numbers of the queue are known.
@@ -43,7 +33,7 @@ enter-requires c κs =
     let s = start u in
     let fit = subst (Fit (lain u)) (sym (u .queue-in .ensures)) (spread-fits (spreads u) (s .pre .0)) in
     let end = ap (λ (q : Queue). q .front + q .count) (u .queue-in .ensures) in
-    (u .before .spread .ensures .1, (fit, (omega (arith, end, s .pre .1 .0), s .pre .1 .1)))
+    (record { long = u .before .spread .ensures .1; fit = fit; room = omega (arith, end, s .pre .1 .0) }, s .pre .1 .1)
 
 returns : tie.Need-returns
 returns c =
@@ -66,7 +56,7 @@ enter-ledger-spec =
     tie.close
     (tie.spec
     (λ c κs. record { unpaid-long = refl; amount-long = refl; label-long = refl })  -- spread-requires
-    (λ c κs. let s : tie.Start = search in record { count-most = s .pre .1 .0; items-within = s .pre .0 .items-within })  -- queue-in-requires
+    (λ c κs. let s : tie.Start = search in search)  -- queue-in-requires
     enter-requires
     (λ c κs. search needs)  -- gathered-requires
     (λ c κs. tt)  -- ledger-of-requires

@@ -1,19 +1,11 @@
 -- The array is filled from the front with the items that lie from the place on (`pad-next`).
-use mathlib.Core.Path.{_≡_, refl}
-use Prim.Native.Nat.{_-_, _≤_, _<_}
-use native.Mathlib.Omega.{arith}
-use native.Mathlib.Numerals.{add-one}
-use lib.ListN.{length, drop, length-drop}
-use lib.Seq.{getD-drop}
-use borrow.Author.Needs.{needs}
+use Rattle.common.proofs.Words.{_≡_, refl, _-_, _≤_, _<_, arith, add-one, length, drop, length-drop, getD-drop, needs}
 use Rattle.lists.specs.Pad.{pad}
 use Rattle.lists.proofs.Pad.{pad-next}
-use Rattle.ledger.specs.Limits.{capacity}
-use Rattle.ledger.specs.Posting.{blank}
+use Rattle.ledger.specs.{Limits.capacity, Posting.blank}
 use Rattle.lanes.specs.Lanes.{rows}
 use Rattle.ledger.proofs.Places.{part}
-use Rattle.lanes.proofs.Rows.{rows-long}
-use Rattle.lanes.proofs.gathered.Statement.{statement}
+use Rattle.lanes.proofs.{Rows.rows-long, gathered.Statement.statement}
 use Rattle.lanes.proofs.gathered.Tie as tie
 
 abbrev Inv-loop : tie.InvT-loop

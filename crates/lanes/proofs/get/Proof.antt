@@ -1,8 +1,6 @@
 -- The row at a place is the item of the three numbers there.
-use mathlib.Core.Path.{sym, _∙_}
-use borrow.Author.Needs.{needs}
-use Rattle.lanes.proofs.Rows.{row-at}
-use Rattle.lanes.proofs.get.Statement.{statement}
+use Rattle.common.proofs.Words.{sym, _∙_, needs}
+use Rattle.lanes.proofs.{Rows.row-at, get.Statement.statement}
 use Rattle.lanes.proofs.get.Tie as tie
 
 returns : tie.Need-returns

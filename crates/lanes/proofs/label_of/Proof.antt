@@ -1,11 +1,7 @@
 -- Two days below 65,536 and the kind above them: the label is read back (`label-back`).
-use mathlib.Core.Path.{refl}
-use Prim.Native.Nat.{_<_}
-use native.Mathlib.Omega.{arith}
-use borrow.Author.Needs.{needs}
+use Rattle.common.proofs.Words.{refl, _<_, arith, needs}
 use Rattle.lanes.specs.Lanes.{labelOf}
-use Rattle.lanes.proofs.Rows.{label-back, kind-most}
-use Rattle.lanes.proofs.label_of.Statement.{statement}
+use Rattle.lanes.proofs.{Rows.label-back, Rows.kind-most, label_of.Statement.statement}
 use Rattle.lanes.proofs.label_of.Tie as tie
 
 obligation-fits : (s : tie.Start) → s .args .item .obligation < 65536

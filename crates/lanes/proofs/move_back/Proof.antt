@@ -1,18 +1,11 @@
--- The front is filled item by item with what lies from the place on; behind it the rows are as they were (`slide-next`).
-use mathlib.Core.Path.{_≡_, refl, sym, ap, _∙_}
-use mathlib.Core.List.{List, _++_}
-use Prim.Native.Nat.{_+_, _-_, _≤_}
-use native.Mathlib.Omega.{arith}
-use native.Mathlib.Numerals.{add-one}
-use lib.ListN.{length, getD, set, take, drop, length-drop}
-use lib.Seq.{length-take-le, take-at}
-use Rattle.ledger.specs.declared.Item.{Item}
-use Rattle.ledger.specs.Limits.{lanePlaces}
-use Rattle.ledger.specs.Posting.{blank}
+-- The front is filled item by item with what lies from the place on. All along the rows are the items moved so far and, behind them,
+-- the rows as they were (`filled`); that a turn keeps this is `slide-next`.
+use Rattle.common.proofs.Words.{_≡_, refl, sym, ap, _∙_, List, _++_, _+_, _-_, _≤_, arith, add-one, length, getD, set, take, drop}
+use Rattle.common.proofs.Words.{length-drop, length-take-le, take-at}
+use Rattle.ledger.specs.{declared.Item.Item, Limits.lanePlaces, Posting.blank}
 use Rattle.lanes.specs.Lanes.{rows, Long}
 use Rattle.ledger.proofs.Places.{part}
-use Rattle.lanes.proofs.Rows.{rows-long, slide-next}
-use Rattle.lanes.proofs.move_back.Statement.{statement}
+use Rattle.lanes.proofs.{Rows.rows-long, Rows.slide-next, move_back.Statement.statement}
 use Rattle.lanes.proofs.move_back.Tie as tie
 
 abbrev Inv-loop : tie.InvT-loop

@@ -1,16 +1,9 @@
 -- Where nothing stays unpaid, nothing is stored; else the item is put at its place, which is behind every part that ends there.
-use mathlib.Core.Path.{sym, ap, _∙_}
-use mathlib.Core.List.{List}
-use Prim.Native.Nat.{_+_, _<_}
-use native.Mathlib.Nat.{add-zero}
-use lib.ListN.{length, set}
-use borrow.Author.Needs.{needs}
-use Rattle.ledger.specs.declared.Item.{Item}
-use Rattle.ledger.specs.Numbers.{places}
+use Rattle.common.proofs.Words.{sym, ap, _∙_, List, _+_, _<_, add-zero, length, set, needs}
+use Rattle.ledger.specs.{declared.Item.Item, Numbers.places}
 use Rattle.lanes.specs.Lanes.{rows}
 use Rattle.ledger.proofs.Places.{part, places-none, places-some, part-none, part-behind}
-use Rattle.lanes.proofs.Rows.{rows-long}
-use Rattle.lanes.proofs.post_item.Statement.{statement}
+use Rattle.lanes.proofs.{Rows.rows-long, post_item.Statement.statement}
 use Rattle.lanes.proofs.post_item.Tie as tie
 
 abbrev lain : tie.Start → List Item

@@ -1,19 +1,11 @@
--- The front of the lanes is filled item by item (`fill-next`).
-use mathlib.Core.Path.{_≡_, refl, sym, ap, _∙_}
-use mathlib.Core.List.{List, _++_}
-use Prim.Native.Nat.{_-_, _≤_}
-use native.Mathlib.Omega.{arith}
-use native.Mathlib.Numerals.{add-one}
-use lib.ListN.{length, getD, set, take, drop}
-use lib.Seq.{take-all, take-at}
-use borrow.Author.Needs.{needs}
+-- The front of the lanes is filled item by item. All along the rows are the items so far and, behind them, the rows as they were
+-- (`filled`); that a turn keeps this is `fill-next`.
+use Rattle.common.proofs.Words.{_≡_, refl, sym, ap, _∙_, List, _++_, _-_, _≤_, arith, add-one, length, getD, set, take, drop, take-all}
+use Rattle.common.proofs.Words.{take-at, needs}
 use Rattle.lists.proofs.Pad.{length-of-mapped, fill-next}
-use Rattle.ledger.specs.declared.Item.{Item}
-use Rattle.ledger.specs.Limits.{capacity}
-use Rattle.ledger.specs.Posting.{blank}
+use Rattle.ledger.specs.{declared.Item.Item, Limits.capacity, Posting.blank}
 use Rattle.lanes.specs.Lanes.{rows, Long}
-use Rattle.lanes.proofs.Rows.{rows-long}
-use Rattle.lanes.proofs.spread.Statement.{statement}
+use Rattle.lanes.proofs.{Rows.rows-long, spread.Statement.statement}
 use Rattle.lanes.proofs.spread.Tie as tie
 
 abbrev Inv-loop : tie.InvT-loop

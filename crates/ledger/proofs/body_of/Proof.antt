@@ -1,4 +1,4 @@
-use borrow.Author.Needs.{needs}
+use Rattle.common.proofs.Words.{needs}
 use Rattle.ledger.specs.Interest.{body}
 use Rattle.ledger.proofs.body_of.Statement.{statement}
 use Rattle.ledger.proofs.body_of.Tie as tie

@@ -1,6 +1,4 @@
-use native.Mathlib.Omega.{arith}
-use mathlib.Core.Path.{sym}
-use mir.Facts.{toZ-ofZ}
+use Rattle.common.proofs.Words.{arith, sym, toZ-ofZ}
 use Rattle.ledger.proofs.Signed.{charge-negative, charge-nonnegative, nonnegative, magnitude-most}
 use Rattle.ledger.proofs.charge_of.Statement.{statement}
 use Rattle.ledger.proofs.charge_of.Tie as tie

@@ -1,12 +1,6 @@
-use mathlib.Core.Path.{_≡_, sym}
-use native.Mathlib.Omega.{arith}
-use lib.IntN.{pos, _-ℤ_}
-use mir.Facts.{toZ-ofZ}
-use mir.Syntax.{w32}
-use mir.Val.{SFits, toZ, ofZ}
+use Rattle.common.proofs.Words.{_≡_, sym, arith, pos, _-ℤ_, toZ-ofZ, w32, SFits, toZ, ofZ}
 use Rattle.ledger.specs.Posting.{creditOf}
-use Rattle.ledger.proofs.Signed.{credit-nonnegative, turned}
-use Rattle.ledger.proofs.credit_of.Statement.{statement}
+use Rattle.ledger.proofs.{Signed.credit-nonnegative, Signed.turned, credit_of.Statement.statement}
 use Rattle.ledger.proofs.credit_of.Tie as tie
 
 turned-is : (c : tie.Then1) → pos 0 -ℤ toZ w32 (ofZ w32 (c .before .args .net)) ≡ pos (creditOf (c .before .args .net))

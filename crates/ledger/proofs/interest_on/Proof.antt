@@ -1,15 +1,8 @@
 -- Interest bears none; a price item none up to its due day and 10 days after; else the product, which fits (`product-most`).
-use mathlib.Core.Path.{_≡_, sym, ap}
-use Prim.Native.Nat.{_-_, _*_, _≤_, _<_, _^_}
-use native.Mathlib.Nat.{mul-le-mul}
-use native.Mathlib.Omega.{arith}
-use borrow.Author.Tests.{lt-ltb}
-use borrow.Author.Needs.{needs}
-use Rattle.ledger.specs.declared.Kind.the-variants.{Interest, Price}
-use Rattle.ledger.specs.Limits.{mostPrice}
+use Rattle.common.proofs.Words.{_≡_, sym, ap, _-_, _*_, _≤_, _<_, _^_, mul-le-mul, arith, lt-ltb, needs}
+use Rattle.ledger.specs.{declared.Kind.the-variants.Interest, declared.Kind.the-variants.Price, Limits.mostPrice}
 use Rattle.ledger.specs.Interest.{isPrice, daysLate, interestOn}
-use Rattle.ledger.proofs.Interest.{body-most, none-in-time, interest-bears-none}
-use Rattle.ledger.proofs.interest_on.Statement.{statement}
+use Rattle.ledger.proofs.{Interest.body-most, Interest.none-in-time, Interest.interest-bears-none, interest_on.Statement.statement}
 use Rattle.ledger.proofs.interest_on.Tie as tie
 
 -- A price item; its amount is bounded.
@@ -20,19 +13,19 @@ price-most : (c : tie.After-enum-told2) → c .before .before .args .item .amoun
 price-most c = c .before .before .pre (ap isPrice (price c))
 
 -- It is settled more than 10 days late.
-module _ (c : tie.After-body-of) where
-  abbrev p : tie.After-enum-told2
-  p = c .before .before .before .before .before
+abbrev told : tie.After-body-of → tie.After-enum-told2
+told c = c .before .before .before .before .before
 
+module _ (c : tie.After-body-of) where
   abbrev s : tie.Start
-  s = p .before .before
+  s = told c .before .before
 
   product-most : c .body-of .result * (s .args .day - s .args .item .due) ≤ mostPrice * 65535
   product-most =
       let day : s .args .day < 2 ^ 16 = search needs in
       let late : s .args .day - s .args .item .due ≤ 65535 = omega arith in
       let whole : c .body-of .result ≤ mostPrice =
-      omega (arith, c .body-of .ensures, body-most (s .args .item .amount), price-most p) in
+      omega (arith, c .body-of .ensures, body-most (s .args .item .amount), price-most (told c)) in
       mul-le-mul whole late
 
 returns : tie.Need-returns

@@ -1,4 +1,4 @@
-use borrow.Author.Needs.{needs}
+use Rattle.common.proofs.Words.{needs}
 use Rattle.ledger.proofs.queue_in.Statement.{statement}
 use Rattle.ledger.proofs.queue_in.Tie as tie
 

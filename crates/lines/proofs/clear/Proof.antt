@@ -1,16 +1,12 @@
 -- Place by place: what lies before `i` is 0.
-use mathlib.Core.Path.{_≡_, refl, sym, ap, _∙_}
-use mathlib.Core.List.{_∷_, [], _++_}
-use Prim.Native.Nat.{ℕ, zero, suc, _-_, _≤_}
-use native.Mathlib.Omega.{arith}
-use native.Mathlib.Numerals.{add-one}
-use lib.ListN.{length, take, replicate, length-set}
-use lib.Seq.{take-all, take-suc-set}
+use Rattle.common.proofs.Words.{_≡_, refl, sym, ap, _∙_, _∷_, [], _++_, ℕ, zero, suc, _-_, _≤_, arith, add-one, length, take, replicate}
+use Rattle.common.proofs.Words.{length-set, take-all, take-suc-set}
+use Rattle.lines.specs.Feeding.{keptMost}
 use Rattle.lines.proofs.clear.Statement.{statement}
 use Rattle.lines.proofs.clear.Tie as tie
 
 abbrev Inv-loop : tie.InvT-loop
-Inv-loop line₀ i₀ line i = record { within : i ≤ 31; long : length line ≡ 31; zeros : take i line ≡ replicate i 0 }
+Inv-loop line₀ i₀ line i = record { within : i ≤ keptMost; long : length line ≡ keptMost; zeros : take i line ≡ replicate i 0 }
 
 abbrev μ-loop : tie.MeasureT-loop
 μ-loop line₀ i₀ line i = length line₀ - i
@@ -38,9 +34,9 @@ loop-again c =
 returns : Walk tie.Need-returns
 returns c =
     let l : Walk tie.At-loop = search in
-    let all : 31 ≤ l .loop .i = omega (arith, l .loop .inv .long) in
-    let end : l .loop .i ≡ 31 = omega (arith, l .loop .inv .within) in
-    sym (take-all 31 (l .loop .line) (omega (arith, l .loop .inv .long))) ∙ ap (λ n. take n (l .loop .line)) (sym end) ∙ l .loop .inv .zeros ∙ ap (λ n. replicate n 0) end
+    let long = l .loop .inv .long in
+    let end : l .loop .i ≡ keptMost = omega (arith, long, l .loop .inv .within, c .loop-test .left) in
+    sym (take-all keptMost (l .loop .line) (omega (arith, long))) ∙ rw end at (l .loop .inv .zeros)
 
 pub clear-spec : {M : Type 1} → statement M
 clear-spec =
@@ -53,5 +49,5 @@ clear-spec =
     (λ c. let l : Walk tie.At-loop = search in omega (arith, l .loop .inv .within))  -- add-i
     (λ c. let l : Walk tie.At-loop = search in omega (arith, l .loop .inv .long))  -- loop-less
     loop-again
-    (λ c. let l : Walk tie.At-loop = search in let s : Walk tie.Start = search in l .loop .inv .long ∙ sym (s .pre))  -- same-length
+    (λ c. c .before .loop .inv .long ∙ sym (c .before .before .pre))  -- same-length
     returns)

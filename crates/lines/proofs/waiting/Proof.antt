@@ -1,5 +1,4 @@
-use mathlib.Core.Bool.{false}
-use borrow.Author.Needs.{needs}
+use Rattle.common.proofs.Words.{false, needs}
 use Rattle.lines.proofs.waiting.Statement.{statement}
 use Rattle.lines.proofs.waiting.Tie as tie
 

@@ -1,20 +1,15 @@
-use mathlib.Core.Path.{_≡_, ap, sym, _∙_}
-use mathlib.Core.Bool.{Bool, true, false, cond, not}
-use mathlib.Core.List.{List, _∷_, map, reverse}
-use Prim.Native.Nat.{ℕ, suc, _≤_, _<_, _+_, _-_}
-use native.Mathlib.Omega.{arith}
-use lib.ListN.{length-reverse, length, getD, take, length-set, length-take, List·getD-map}
-use lib.Seq.{getD-take}
-use borrow.Author.Needs.{needs}
-use Rattle.lists.proofs.Pad.{length-of-mapped, length-map-take}
-use Rattle.lists.proofs.Sum.{total-suc}
+-- This period takes its share of the pool, then each estimate in turn from the latest back. Invariant (`Walking`): the periods from i on
+-- have their parts, and the shares of the earlier ones, of what is left, complete the whole (`Walked`). The laws of the walk are those
+-- of `Walk`: `walked-first`, `walked-next` and `walked-last`.
+use Rattle.common.proofs.Words.{_≡_, ap, _∙_, Bool, true, false, not, List, map, ℕ, _+_, _-_, _≤_, _<_, arith, length, getD, take}
+use Rattle.common.proofs.Words.{length-map, length-set, getD-take, length-take-le, needs}
+use lib.ListN.{List·getD-map}
+use Rattle.meter.specs.Sharing.{blank, sharing, sharedPool, standing}
+use Rattle.meter.specs.{Limits.mostMisses, declared.Estimate.Estimate, declared.Estimates.Estimates, declared.Share.Share}
 use Rattle.lists.specs.Pad.{pad}
-use Rattle.meter.specs.Sharing.{shareTaken, blank, sharers, shares, sharing, sharedPool, standing}
-use Rattle.meter.specs.declared.Estimates.{Estimates}
-use Rattle.meter.specs.declared.Share.{Share}
-use Rattle.meter.proofs.Sharing.{shares-length, sharers-at-most}
-use Rattle.meter.proofs.Walk.{Walked, left-falls, walked-first, walked-next, walked-last}
-use Rattle.meter.proofs.share_pool.Statement.{statement}
+use Rattle.lists.proofs.Pad.{length-of-mapped, length-take-most}
+use Rattle.meter.proofs.Walk.{Walked, left-falls, one-left, walked-first, walked-next, walked-last}
+use Rattle.meter.proofs.{Sharing.shared-length, Sharing.sharers-at-most, share_pool.Statement.statement}
 use Rattle.meter.proofs.share_pool.Tie as tie
 
 -- the marks of the standing estimates, oldest first
@@ -27,10 +22,10 @@ whole estimates pool = pad 7 0 (sharedPool (standing estimates) pool)
 
 record Walking (estimates : Estimates) (count pool : ℕ) (volumes : List ℕ) (share : Share) (i : ℕ) : Type 0 where
   pub within : i ≤ count
-  pub most : count ≤ 6
+  pub most : count ≤ mostMisses
   pub long : length volumes ≡ 7
-  pub left-within : share .left ≤ 99999
-  pub walked : Walked (marks estimates) (whole estimates pool) (share .left) (share .periods) volumes i
+  pub left-within : share .left ≤ pool
+  pub walked : Walked (marks estimates) (whole estimates pool) share volumes i
 
 abbrev Inv-loop : tie.InvT-loop
 Inv-loop pool estimates count volumes₀ share₀ i₀ volumes share i = Walking estimates count pool volumes share i
@@ -38,84 +33,101 @@ Inv-loop pool estimates count volumes₀ share₀ i₀ volumes share i = Walking
 abbrev μ-loop : tie.MeasureT-loop
 μ-loop pool estimates count volumes₀ share₀ i₀ volumes share i = i
 
-count-long : (c : tie.Start Inv-loop μ-loop) → length (marks (c .args .t1)) ≡ c .args .t1 .count
-count-long c =
-    let six : length (c .args .t1 .periods) ≡ 6 = search (length-of-mapped, needs) in
-    length-map-take sharing (c .args .t1 .periods) (c .args .t1 .count) (omega arith)
+abbrev Walk : (tie.InvT-loop → tie.MeasureT-loop → Type 0) → Type 0
+Walk T = T Inv-loop μ-loop
 
-count-most : (c : tie.After-count-sharers Inv-loop μ-loop) → c .count-sharers .result ≤ 6
-count-most c = omega (arith, c .count-sharers .ensures, sharers-at-most (marks (c .before .args .t1)), count-long (c .before))
+abbrev Start : Type 0
+Start = Walk tie.Start
 
--- the mark of a period is that of the array's element
-mark-is : (estimates : Estimates) (j : ℕ) → j < estimates .count → getD (marks estimates) j true ≡ sharing (getD (estimates .periods) j blank)
-mark-is estimates j h = List·getD-map sharing (standing estimates) j blank ∙ ap sharing (getD-take (estimates .count) (estimates .periods) j blank h)
+abbrev estimates : Start → Estimates
+estimates s = s .args .t1
 
-periods-most : (c : tie.After-estimate Inv-loop μ-loop) → c .before .before .loop .share .periods ≤ 7
-periods-most c =
-    let inv = c .before .before .loop .inv in
-    let front = take (c .before .before .loop .i) (marks (c .before .before .before .before .before .args .t1)) in
-    omega (arith, inv .walked .periods-left, sharers-at-most front, length-take (c .before .before .loop .i) (marks (c .before .before .before .before .before .args .t1)), inv .within, inv .most)
+standing-long : (s : Start) → length (standing (estimates s)) ≡ estimates s .count
+standing-long s =
+    let six : length (estimates s .periods) ≡ mostMisses = search (length-of-mapped, needs) in
+    length-take-le (estimates s .count) (estimates s .periods) (omega arith)
 
--- a period that shares is among the periods left
-one-left : (c : tie.After-estimate Inv-loop μ-loop) → getD (c .before .before .before .before .before .args .t1 .periods) (c .before .before .loop .i - 1) blank .absent ≡ false → 1 ≤ c .before .before .loop .share .periods
-one-left c present =
-    let inv = c .before .before .loop .inv in
-    let estimates = c .before .before .before .before .before .args .t1 in
-    let j = c .before .before .loop .i - 1 in
-    let next : c .before .before .loop .i ≡ suc j = omega arith in
-    let within : j < length (marks estimates) = omega (arith, count-long (c .before .before .before .before .before), inv .within) in
-    let mark : getD (marks estimates) j true ≡ true = mark-is estimates j (omega (arith, inv .within)) ∙ ap not present in
-    omega (arith, rw (next, total-suc (λ shares. cond shares 1 0) (marks estimates) j true within, mark) at (inv .walked .periods-left))
+marks-long : (s : Start) → length (marks (estimates s)) ≡ estimates s .count
+marks-long s = length-map (standing (estimates s)) sharing ∙ standing-long s
 
--- a volume for each estimate and for this period
-pool-long : (estimates : Estimates) (pool : ℕ) → length (marks estimates) ≡ estimates .count → length (sharedPool (standing estimates) pool) ≡ estimates .count + 1
+sharers-most : (c : Walk tie.After-count-sharers) → c .count-sharers .result ≤ mostMisses
+sharers-most c = omega (arith, c .count-sharers .ensures, sharers-at-most (marks (estimates (c .before))), marks-long (c .before))
+
+loop-holds : Walk tie.Need-loop-holds
 unfolding sharedPool
-pool-long estimates pool e =
-    rw (length-reverse (shares pool (true ∷ reverse (marks estimates))), shares-length (true ∷ reverse (marks estimates)) pool, length-reverse (marks estimates), e) (omega arith)
-
-loop-holds : tie.Need-loop-holds Inv-loop μ-loop
-unfolding sharedPool
-loop-holds c = let start = c .before .before in
-    let estimates = start .args .t1 in
-    let pool = start .args .pool in
-    let long = count-long start in
-    let taken : c .take-share .result ≡ shareTaken false pool (sharers (marks estimates) + 1) = c .take-share .ensures ∙ ap (λ n. shareTaken false pool (n + 1)) (c .before .count-sharers .ensures) in
+loop-holds c =
+    let s = c .before .before in
+    let first = walked-first (marks (estimates s)) (s .args .pool) 7 (omega (arith, marks-long s)) in
     record {
       within = omega arith;
-      most = start .pre .0;
+      most = s .pre .0;
       long = simp length-set;
-      left-within = rw taken (omega (arith, left-falls false pool (sharers (marks estimates) + 1)));
-      walked = rw taken (rw long at (walked-first (marks estimates) pool 7 (omega arith)));
+      left-within = rw (c .take-share .ensures) (left-falls _ _ _);
+      walked = rw (c .take-share .ensures, c .before .count-sharers .ensures) (rw (marks-long s) at first);
     }
 
-take-share-requires-2 : tie.Need-take-share-requires-2 Inv-loop μ-loop
-take-share-requires-2 c κs = let inv = c .before .before .loop .inv in
-    (inv .left-within, (periods-most c, one-left c))
+-- In a turn: the period j, the latest that has no part yet.
+module _ (c : Walk tie.In-loop) where
+  abbrev s : Start
+  s = c .before .before .before .before
 
-loop-again : tie.Need-loop-again Inv-loop μ-loop
-loop-again c = let inv = c .before .before .before .loop .inv in
-    let start = c .before .before .before .before .before .before in
-    let out = c .before .before .before .loop .volumes in
-    let j = c .before .before .before .loop .i - 1 in
-    let next : c .before .before .before .loop .i ≡ suc j = omega arith in
-    let left = c .before .before .before .loop .share .left in
-    let periods = c .before .before .before .loop .share .periods in
-    let absent = getD (start .args .t1 .periods) j blank .absent in
+  abbrev j : ℕ
+  j = c .before .loop .i - 1
+
+  abbrev period : Estimate
+  period = getD (estimates s .periods) j blank
+
+  inv : Walking (estimates s) (estimates s .count) (s .args .pool) (c .before .loop .volumes) (c .before .loop .share) (c .before .loop .i)
+  inv = c .before .loop .inv
+
+  in-marks : c .before .loop .i ≤ length (marks (estimates s))
+  in-marks = omega (arith, marks-long s, inv .within)
+
+  mark-is : getD (marks (estimates s)) j true ≡ sharing period
+  mark-is =
+      List·getD-map sharing (standing (estimates s)) j blank ∙
+      ap sharing (getD-take (estimates s .count) (estimates s .periods) j blank (omega (arith, inv .within)))
+
+  some-left : period .absent ≡ false → 1 ≤ c .before .loop .share .periods
+  some-left present = one-left (inv .walked) (c .loop-test .taken) in-marks (mark-is ∙ ap not present)
+
+  periods-most : c .before .loop .share .periods ≤ 7
+  periods-most =
+      let front = take (c .before .loop .i) (marks (estimates s)) in
+      let few = length-take-most (c .before .loop .i) (marks (estimates s)) in
+      omega (arith, inv .walked .periods-left, sharers-at-most front, few, inv .within, inv .most)
+
+take-share-requires-2 : Walk tie.Need-take-share-requires-2
+take-share-requires-2 c κs =
+    let t : Walk tie.In-loop = search in
+    record { volume-within = omega (arith, inv t .left-within, s t .pre .1); few = periods-most t; some-left = some-left t }
+
+loop-again : Walk tie.Need-loop-again
+loop-again c =
+    let t : Walk tie.In-loop = search in
+    let l = t .before .loop in
+    let room : j t < length (l .volumes) = omega (arith, inv t .long, inv t .within, inv t .most) in
+    let falls = left-falls (period t .absent) (l .share .left) (l .share .periods) in
     record {
-      within = omega (arith, inv .within);
-      most = inv .most;
-      long = rw (length-set out j (c .take-share2 .result .part)) (inv .long);
-      left-within = rw (c .take-share2 .ensures) (omega (arith, inv .left-within, left-falls absent left periods));
-      walked = rw (c .take-share2 .ensures) (walked-next (marks (start .args .t1)) (whole (start .args .t1) (start .args .pool)) left periods out j absent (omega (arith, count-long start, inv .within)) (omega (arith, inv .long, inv .within, inv .most)) (mark-is (start .args .t1) j (omega (arith, inv .within))) (rw next at (inv .walked)));
+      within = omega (arith, inv t .within);
+      most = inv t .most;
+      long = length-set (l .volumes) (j t) (c .take-share2 .result .part) ∙ inv t .long;
+      left-within = rw (c .take-share2 .ensures) (omega (arith, inv t .left-within, falls));
+      walked =
+          rw (c .take-share2 .ensures)
+          (walked-next (inv t .walked) (t .loop-test .taken) (in-marks t) (period t .absent) room (mark-is t));
     }
 
-returns : tie.Need-returns Inv-loop μ-loop
-returns c = let start = c .before .before .before .before in
-    let inv = c .before .loop .inv in
-    let done : c .before .loop .i ≡ 0 = omega arith in
-    let long = pool-long (start .args .t1) (start .args .pool) (count-long start) in
-    let out = walked-last (marks (start .args .t1)) (whole (start .args .t1) (start .args .pool)) (c .before .loop .share .left) (c .before .loop .share .periods) (c .before .loop .volumes) (rw done at (inv .walked)) in
-    λ i. record { count = sym long i; volumes = out i }
+returns : Walk tie.Need-returns
+returns c =
+    let s : Start = search in
+    let l = c .before .loop in
+    let shared = sharedPool (standing (estimates s)) (s .args .pool) in
+    let count : estimates s .count + 1 ≡ length shared =
+    omega (arith, shared-length (standing (estimates s)) (s .args .pool), standing-long s) in
+    let done : l .i ≡ 0 = omega arith in
+    let volumes = walked-last (rw done at (l .inv .walked)) in
+    λ i. record { count = count i; volumes = volumes i }
 
 pub share-pool-spec : {M : Type 1} → statement M
 share-pool-spec =
@@ -124,8 +136,9 @@ share-pool-spec =
     Inv-loop
     μ-loop
     (λ c κs. c .pre .0)  -- count-sharers-requires
-    (λ c. omega (arith, count-most c))  -- add-take-share
-    (λ c κs. (c .before .pre .1, (omega (arith, count-most c), (λ _. omega arith))))  -- take-share-requires
+    (λ c. omega (arith, sharers-most c))  -- add-take-share
+    (λ c κs.
+    record { volume-within = c .before .pre .1; few = omega (arith, sharers-most c); some-left = λ _. omega arith })  -- take-share-requires
     (λ c. search needs)  -- mul-volumes
     (λ c. search needs)  -- array-write-volumes
     loop-holds

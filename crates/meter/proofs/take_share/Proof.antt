@@ -1,16 +1,15 @@
-use native.Mathlib.Omega.{arith}
-use borrow.Author.Needs.{needs}
+use Rattle.common.proofs.Words.{_≤_, needs}
 use Rattle.meter.specs.Sharing.{shareTaken}
-use Rattle.meter.proofs.Sharing.{part-at-most}
-use Rattle.meter.proofs.take_share.Statement.{statement}
+use Rattle.meter.proofs.{Sharing.part-at-most, take_share.Statement.statement}
 use Rattle.meter.proofs.take_share.Tie as tie
+
+-- a period that shares is among those left
+some-left : (c : tie.Else1) → 1 ≤ c .before .args .periods
+some-left c = c .before .pre .some-left (c .if1 .left)
 
 returns : tie.Need-returns
 unfolding shareTaken
 returns c = rw (c .if1 .taken)
-
-sub-t6 : tie.Need-sub-t6
-sub-t6 c = part-at-most (c .before .args .left) (c .before .args .periods) (c .before .pre .1 .1 (c .if1 .left))
 
 returns-2 : tie.Need-returns-2
 unfolding shareTaken
@@ -21,9 +20,9 @@ take-share-spec =
     tie.close
     (tie.spec
     returns
-    (λ c. omega (arith, c .before .pre .1 .1 (c .if1 .left)))  -- sub-part
+    some-left  -- sub-part
     (λ c. search needs)  -- add-part
-    (λ c. c .before .pre .1 .1 (c .if1 .left))  -- div-part
-    sub-t6
-    (λ c. c .before .pre .1 .1 (c .if1 .left))  -- sub-t7
+    some-left  -- div-part
+    (λ c. part-at-most (c .before .args .left) (c .before .args .periods) (some-left c))  -- sub-t6
+    some-left  -- sub-t7
     returns-2)

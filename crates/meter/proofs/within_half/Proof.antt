@@ -1,4 +1,4 @@
-use borrow.Author.Needs.{needs}
+use Rattle.common.proofs.Words.{needs}
 use Rattle.meter.specs.Dial.{withinHalf}
 use Rattle.meter.proofs.within_half.Statement.{statement}
 use Rattle.meter.proofs.within_half.Tie as tie

@@ -1,14 +1,14 @@
-use mathlib.Core.Path.{_≡_, sym}
-use native.Mathlib.Omega.{arith}
-use lib.ListN.{length}
-use lib.Seq.{length-take-le}
-use borrow.Author.Needs.{needs}
+use Rattle.common.proofs.Words.{_≡_, sym, _*_, arith, length, length-take-le, needs}
+use Rattle.ledger.specs.Limits.{capacity}
+use Rattle.answers.specs.Notices.{noticeLength}
 use Rattle.notice.proofs.main.Statement.{statement}
 use Rattle.notice.proofs.main.Tie as tie
 
 slice-aggregate-write-all : tie.Need-slice-aggregate-write-all
-slice-aggregate-write-all c = let long : length (c .before .before .before .put-notices .last .1 .0) ≡ 2520 = search needs in
-    sym (length-take-le (c .before .before .before .put-notices .result) (c .before .before .before .put-notices .last .1 .0) (omega (arith, long, c .before .if2 .taken)))
+slice-aggregate-write-all c =
+    let p : tie.After-put-notices = search in
+    let long : length (p .put-notices .last .1 .0) ≡ capacity * noticeLength = search needs in
+    sym (length-take-le (p .put-notices .result) (p .put-notices .last .1 .0) (omega arith))
 
 pub main-spec : {M : Type 1} → statement M
 main-spec =

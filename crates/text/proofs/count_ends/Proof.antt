@@ -1,10 +1,5 @@
 -- What was counted, with what is counted from `i` on, is what is counted of all; a block moves both.
-use mathlib.Core.Path.{_≡_, ap}
-use Prim.Native.Nat.{_+_, _-_, _≤_}
-use native.Mathlib.Omega.{arith}
-use native.Mathlib.Nat.{zero-add}
-use lib.ListN.{length, drop, drop-of-length-le}
-use borrow.Author.Needs.{needs}
+use Rattle.common.proofs.Words.{_≡_, ap, _+_, _-_, _≤_, arith, zero-add, length, drop, drop-of-length-le, needs}
 use Rattle.text.specs.Lines.{endsIn}
 use Rattle.text.proofs.count_ends.Statement.{statement}
 use Rattle.text.proofs.count_ends.Tie as tie
@@ -45,7 +40,7 @@ count-ends-spec =
     μ-loop
     (λ c. record { within = omega arith; few = omega arith; counted = zero-add _ })  -- loop-holds
     (λ c κs. let more : Walk tie.In-loop = search in more .loop-test .taken)  -- block-end-requires
-    (λ c κs. let b : Walk tie.After-block-end = search in let e = b .block-end .ensures in (omega (arith, e .0), (e .1 .0, e .1 .1)))  -- ends-between-requires
+    (λ c κs. let e = c .block-end .ensures in (omega (arith, e .0), (e .1 .0, e .1 .1)))  -- ends-between-requires
     (λ c. search needs)  -- cast-ends
     (λ c.
     let l : Walk tie.At-loop = search in

@@ -1,15 +1,7 @@
 -- What was counted, with what is counted from `i` on, is what is counted from the block's start on.
-use mathlib.Core.Path.{_≡_, refl, sym, ap, _∙_}
-use mathlib.Core.Logic.{⊎-elim}
-use Prim.Native.Nat.{suc, _+_, _-_, _≤_, _<_}
-use native.Mathlib.Omega.{arith}
-use native.Mathlib.Nat.{zero-add}
-use native.Mathlib.Numerals.{add-one}
-use lib.ListN.{length, getD, drop}
-use borrow.Author.Tests.{eq-eqb, ne-eqb}
+use Rattle.common.proofs.Words.{_≡_, sym, ap, _∙_, ⊎-elim, _+_, _-_, _≤_, _<_, arith, zero-add, add-one, length, drop}
 use Rattle.text.specs.Lines.{endsIn}
-use Rattle.text.proofs.Room.{ends-next}
-use Rattle.text.proofs.ends_between.Statement.{statement}
+use Rattle.text.proofs.{Room.ends-here, Room.ends-later, ends_between.Statement.statement}
 use Rattle.text.proofs.ends_between.Tie as tie
 
 abbrev Inv-loop : tie.InvT-loop
@@ -29,9 +21,7 @@ loop-again c =
     let more : Walk tie.In-loop = search in
     let input = s .args .input .now in
     let i = l .loop .i in
-    let inside : i < length input = omega (arith, more .loop-test .taken, s .pre .1 .0) in
-    let next = ends-next input i inside in
-    let rest = endsIn (drop (suc i) input) in
+    let here : i < length input = omega (arith, more .loop-test .taken, s .pre .1 .0) in
     let inv = l .loop .inv in
     record {
       onward = omega (arith, inv .onward);
@@ -39,9 +29,8 @@ loop-again c =
       few = ⊎-elim (λ w. omega (arith, w .1, inv .few)) (λ w. omega (arith, w .1, inv .few)) (c .if1 .came);
       counted =
           rw (add-one i)
-          (⊎-elim
-          (λ w. let one : endsIn (drop i input) ≡ suc rest = next ∙ rw (eq-eqb (getD input i 0) 10 (w .0 .taken)) refl in omega (arith, w .1, one, inv .counted))
-          (λ w. let none : endsIn (drop i input) ≡ rest = next ∙ rw (ne-eqb (getD input i 0) 10 (w .0 .left)) refl in omega (arith, w .1, none, inv .counted))
+          (⊎-elim (λ w. omega (arith, w .1, ends-here input i here (w .0 .taken), inv .counted))
+          (λ w. omega (arith, w .1, ends-later input i here (w .0 .left), inv .counted))
           (c .if1 .came));
     }
 
@@ -61,7 +50,7 @@ ends-between-spec =
     Inv-loop
     μ-loop
     (λ c. record { onward = omega arith; within = c .pre .0; few = omega arith; counted = zero-add _ })  -- loop-holds
-    (λ c. let s : Walk tie.Start = search in let more : Walk tie.In-loop = search in omega (arith, more .loop-test .taken, s .pre .1 .0))  -- shared-slice-read-if1
+    (λ c. let s : Walk tie.Start = search in omega (arith, c .before .loop-test .taken, s .pre .1 .0))  -- shared-slice-read-if1
     (λ c.
     let s : Walk tie.Start = search in
     let l : Walk tie.At-loop = search in

@@ -1,38 +1,47 @@
-use mathlib.Core.Path.{_≡_, refl, sym, ap, _∙_}
-use Prim.Native.Nat.{_*_}
-use native.Mathlib.Omega.{arith}
-use lib.ListN.{length}
-use borrow.Author.Tests.{le-leb, lt-leb}
+-- The notices are put where there is room for all; their length is that of one for each item (`notices-length`).
+use Rattle.common.proofs.Words.{_≡_, List, ℕ, _*_, arith, length, needs, le-leb, lt-leb}
 use Rattle.lists.proofs.Pad.{length-of-mapped}
+use Rattle.ledger.specs.Limits.{capacity}
+use Rattle.answers.specs.Notices.{noticeLength}
 use Rattle.text.specs.Output.{openNotices}
-use Rattle.text.proofs.Notices.{notices-length}
-use borrow.Author.Needs.{needs}
-use Rattle.text.proofs.put_notices.Statement.{statement}
+use Rattle.text.proofs.{Notices.notices-length, put_notices.Statement.statement}
 use Rattle.text.proofs.put_notices.Tie as tie
 
-shown-items-requires : tie.Need-shown-items-requires
-shown-items-requires c κs = search needs
+module _ (c : tie.After-shown-items) where
+  abbrev start : tie.Start
+  start = c .before .before .before
 
-mul-size : tie.Need-mul-size
-mul-size c = search needs
+  abbrev notices : List ℕ
+  notices = openNotices (start .args .account)
 
-put-items-requires : tie.Need-put-items-requires
-put-items-requires c κs = search needs
+  abbrev room : ℕ
+  room = length (start .args .out .now)
 
-same-length : tie.Need-same-length
-same-length c = search needs
+  size-is : noticeLength * c .shown-items .result ≡ length notices
+  size-is =
+      let ledger = start .args .account .ledger in
+      let long : length (ledger .items) ≡ capacity = search (length-of-mapped, needs) in
+      omega (arith, notices-length (ledger .count) (ledger .items) long, c .shown-items .ensures)
 
 returns : tie.Need-returns
-returns c = let long : length (c .before .before .before .before .before .before .before .before .args .account .ledger .items) ≡ 72 = search (length-of-mapped, needs) in
-    let size = notices-length (c .before .before .before .before .before .before .before .before .args .account .ledger .count) (c .before .before .before .before .before .before .before .before .args .account .ledger .items) long in
-    (ap (λ n. 35 * n) (c .before .before .before .before .before .shown-items .ensures) ∙ sym size, rw (le-leb (length (openNotices (c .before .before .before .before .before .before .before .before .args .account))) (length (c .before .before .before .before .before .before .before .before .args .out .now)) (omega (arith, size, c .before .before .before .before .if1 .taken, c .before .before .before .before .before .shown-items .ensures))) (c .before .before .put-items .ensures))
+returns c =
+    let k : tie.After-shown-items = search in
+    let fits : tie.Then1 = search in
+    let enough = le-leb (length (notices k)) (room k) (omega (arith, size-is k, fits .if1 .taken)) in
+    (size-is k, rw enough (c .before .before .put-items .ensures))
 
 returns-2 : tie.Need-returns-2
-returns-2 c = let long : length (c .before .before .before .before .args .account .ledger .items) ≡ 72 = search (length-of-mapped, needs) in
-    let size = notices-length (c .before .before .before .before .args .account .ledger .count) (c .before .before .before .before .args .account .ledger .items) long in
-    (ap (λ n. 35 * n) (c .before .shown-items .ensures) ∙ sym size, rw (lt-leb (length (openNotices (c .before .before .before .before .args .account))) (length (c .before .before .before .before .args .out .now)) (omega (arith, size, c .if1 .left, c .before .shown-items .ensures))) refl)
+returns-2 c =
+    let k = c .before in
+    (size-is k, rw (lt-leb (length (notices k)) (room k) (omega (arith, size-is k, c .if1 .left))))
 
 pub put-notices-spec : {M : Type 1} → statement M
 put-notices-spec =
     tie.close
-    (tie.spec shown-items-requires mul-size put-items-requires same-length returns returns-2)
+    (tie.spec
+    (λ c κs. search needs)  -- shown-items-requires
+    (λ c. search needs)  -- mul-size
+    (λ c κs. search needs)  -- put-items-requires
+    (λ c. search needs)  -- same-length
+    returns
+    returns-2)

@@ -1,15 +1,7 @@
 -- Where the part is to be written and fits, it is stored byte after byte; otherwise nothing is. Invariant: to write the rest of the
 -- part behind what was stored is to write the whole part.
-use mathlib.Core.Path.{_≡_, refl, sym, ap, _∙_}
-use mathlib.Core.Bool.{true}
-use mathlib.Core.List.{List}
-use Prim.Native.Nat.{ℕ, suc, _+_, _-_, _≤_}
-use native.Mathlib.Omega.{arith}
-use native.Mathlib.Nat.{add-zero}
-use native.Mathlib.Numerals.{add-one}
-use lib.ListN.{length, getD, set, drop, length-set, drop-of-length-le}
-use lib.Seq.{drop-cons}
-use borrow.Author.Tests.{le-leb, lt-leb, not-true, not-false}
+use Rattle.common.proofs.Words.{_≡_, refl, sym, ap, _∙_, true, List, ℕ, suc, _+_, _-_, _≤_, arith, add-zero, add-one, length, getD, set}
+use Rattle.common.proofs.Words.{drop, length-set, drop-of-length-le, drop-cons, le-leb, lt-leb, not-true, not-false}
 use Rattle.frames.specs.Digits.{written}
 use Rattle.text.proofs.put_part.Statement.{statement}
 use Rattle.text.proofs.put_part.Tie as tie
@@ -32,6 +24,9 @@ module _ (s : Walk tie.Start) where
   abbrev part : List ℕ
   part = s .args .part .now
 
+  abbrev out : List ℕ
+  out = s .args .out .now
+
   abbrev at : ℕ
   at = s .args .at
 
@@ -39,35 +34,35 @@ module _ (s : Walk tie.Start) where
 asked : (c : Walk tie.Else1) → c .before .args .writing ≡ true
 asked c = not-false (c .before .args .writing) (c .if1 .left)
 
-room : (c : Walk tie.Else3) → at (c .before .before .before) + length (part (c .before .before .before)) ≤ length (c .before .before .before .args .out .now)
+room : (c : Walk tie.Else3) → let s = c .before .before .before in at s + length (part s) ≤ length (out s)
 room c = omega (arith, c .before .if2 .left, c .if3 .left)
 
 returns-2 : Walk tie.Need-returns-2
 returns-2 c =
     let s : Walk tie.Start = search in
-    rw (asked (c .before), lt-leb (at s + length (part s)) (length (s .args .out .now)) (omega (arith, c .if2 .taken))) refl
+    rw (asked (c .before), lt-leb (at s + length (part s)) (length (out s)) (omega (arith, c .if2 .taken)))
 
 returns-3 : Walk tie.Need-returns-3
 returns-3 c =
     let s : Walk tie.Start = search in
-    rw (asked (c .before .before), lt-leb (at s + length (part s)) (length (s .args .out .now)) (omega (arith, c .if3 .taken))) refl
+    rw (asked (c .before .before), lt-leb (at s + length (part s)) (length (out s)) (omega (arith, c .if3 .taken)))
 
 loop-again : Walk tie.Need-loop-again
 loop-again c =
     let s : Walk tie.Start = search in
     let l : Walk tie.At-loop = search in
-    let out = l .loop .out in
+    let so-far = l .loop .out in
     let i = l .loop .i in
     let place : suc (at s + i) ≡ at s + (i + 1) = omega arith in
     let next : suc i ≡ i + 1 = sym (add-one i) in
     let byte = getD (part s) i 0 in
     record {
       within = omega arith;
-      out-long = length-set out (at s + i) byte ∙ l .loop .inv .out-long;
+      out-long = length-set so-far (at s + i) byte ∙ l .loop .inv .out-long;
       rest =
           l .loop .inv .rest ∙
-          ap (written out (at s + i)) (drop-cons (part s) i 0 (omega arith)) ∙
-          (λ k. written (set out (at s + i) byte) (place k) (drop (next k) (part s)));
+          ap (written so-far (at s + i)) (drop-cons (part s) i 0 (omega arith)) ∙
+          (λ k. written (set so-far (at s + i) byte) (place k) (drop (next k) (part s)));
     }
 
 returns-4 : Walk tie.Need-returns-4
@@ -76,7 +71,7 @@ returns-4 c =
     let l : Walk tie.At-loop = search in
     let fits : Walk tie.Else3 = search in
     let done = drop-of-length-le (part s) {i = l .loop .i} (omega arith) in
-    rw (asked (fits .before .before), le-leb (at s + length (part s)) (length (s .args .out .now)) (room fits))
+    rw (asked (fits .before .before), le-leb (at s + length (part s)) (length (out s)) (room fits))
     (sym (l .loop .inv .rest ∙ ap (written (l .loop .out) (at s + l .loop .i)) done))
 
 pub put-part-spec : {M : Type 1} → statement M
@@ -85,11 +80,11 @@ put-part-spec =
     (tie.spec
     Inv-loop
     μ-loop
-    (λ c. rw (not-true (c .before .args .writing) (c .if1 .taken)) refl)  -- returns
+    (λ c. rw (not-true (c .before .args .writing) (c .if1 .taken)))  -- returns
     returns-2
     (λ c. c .if2 .left)  -- sub-if3
     returns-3
-    (λ c. record { within = omega arith; out-long = refl; rest = rw (add-zero (at (c .before .before .before))) refl })  -- loop-holds
+    (λ c. record { within = omega arith; out-long = refl; rest = rw (add-zero (at (c .before .before .before))) })  -- loop-holds
     (λ c. omega arith)  -- shared-slice-read-out
     (λ c. let fits : Walk tie.Else3 = search in omega (arith, room fits))  -- add-out
     (λ c. let fits : Walk tie.Else3 = search in omega (arith, room fits))  -- slice-write-out

@@ -1,18 +1,10 @@
 -- An input is too long, or there is room for the longest answers, or it is measured: then all of the output fits, or it does not.
-use mathlib.Core.Path.{_≡_, refl, ap, _∙_}
-use mathlib.Core.Bool.{false≢true}
-use mathlib.Core.List.{List}
-use Prim.Native.Nat.{ℕ, _≤_, _<_}
-use native.Mathlib.Omega.{arith}
-use lib.ListN.{length}
-use borrow.Author.Needs.{needs}
-use borrow.Author.Tests.{le-leb, lt-leb}
+-- In each branch a test of the input's length and one of the room tell what `worked` and `sizeOf` are; both sums hold of any lines
+-- (`sums`).
+use Rattle.common.proofs.Words.{_≡_, refl, ap, _∙_, false≢true, List, ℕ, _≤_, _<_, arith, length, needs, le-leb, lt-leb}
 use Rattle.frames.specs.Digits.{written}
-use Rattle.text.specs.declared.Billed.{Billed}
-use Rattle.text.specs.Lines.{linesOf}
-use Rattle.text.specs.Output.{bill, longestInput}
-use Rattle.text.proofs.Sums.{sums}
-use Rattle.text.proofs.write_bill.Statement.{statement}
+use Rattle.text.specs.{declared.Billed.Billed, Lines.linesOf, Output.bill, Output.longestInput}
+use Rattle.text.proofs.{Sums.sums, write_bill.Statement.statement}
 use Rattle.text.proofs.write_bill.Tie as tie
 
 module _ (s : tie.Start) where
@@ -22,15 +14,15 @@ module _ (s : tie.Start) where
   abbrev out : List ℕ
   out = s .args .out .now
 
+abbrev start : tie.After-work-input → tie.Start
+start c = c .before .before .before .before .before .before .before
+
 -- It is measured, and `out` is as it was.
 module _ (c : tie.After-work-input) where
-  abbrev start : tie.Start
-  start = c .before .before .before .before .before .before .before
-
-  size-is : c .work-input .result .size ≡ length (bill (input start))
+  size-is : c .work-input .result .size ≡ length (bill (input (start c)))
   size-is = ap (λ (r : Billed). r .size) (c .work-input .ensures .0)
 
-  same : length (c .work-input .last .1 .0) ≡ length (out start)
+  same : length (c .work-input .last .1 .0) ≡ length (out (start c))
   same = ap length (c .work-input .ensures .1)
 
 returns : tie.Need-returns
@@ -44,11 +36,9 @@ returns-2 c =
     let short : tie.Else1 = search in
     let w : tie.After-write-at-once = search in
     let size = w .write-at-once .ensures .0 in
-    rw (le-leb (length (input s)) longestInput (short .if1 .left), le-leb (length (bill (input s))) (length (out s)) (omega (arith, size, w .write-at-once .ensures .1 .0)))
+    let room : length (bill (input s)) ≤ length (out s) = omega (arith, w .write-at-once .ensures .1 .0) in
+    rw (le-leb (length (input s)) longestInput (short .if1 .left), le-leb (length (bill (input s))) (length (out s)) room)
     (size, (w .write-at-once .ensures .1 .1, sums (linesOf (input s))))
-
-work-input-requires : tie.Need-work-input-requires
-work-input-requires c κs = let short : tie.Else1 = search in (short .if1 .left, λ e. absurd (false≢true e))
 
 work-input-requires-2 : tie.Need-work-input-requires-2
 work-input-requires-2 c κs =
@@ -88,7 +78,7 @@ write-bill-spec =
     (λ c κs. search needs)  -- write-at-once-requires
     (λ c. search needs)  -- same-length
     returns-2
-    work-input-requires
+    (λ c κs. let short : tie.Else1 = search in (short .if1 .left, λ e. absurd (false≢true e)))  -- work-input-requires
     work-input-requires-2
     (λ c. search needs)  -- same-length-2
     returns-3

@@ -1,5 +1,4 @@
-use mathlib.Core.Path.{refl}
-use borrow.Author.Needs.{needs}
+use Rattle.common.proofs.Words.{refl, needs}
 use Rattle.account.proofs.Account.new.Statement.{statement}
 use Rattle.account.proofs.Account.new.Tie as tie
 

@@ -1,34 +1,38 @@
--- The plan is the call's, and it comes to the call's work; what is carried out is then the call's outcome.
-use mathlib.Core.Path.{_≡_, refl, sym, ap, subst, _∙_}
-use mathlib.Core.List.{List}
-use Prim.Native.Nat.{ℕ, _≤_}
-use native.Mathlib.Omega.{arith}
-use lib.ListN.{length, replicate}
-use borrow.Author.Needs.{needs}
+-- The plan is the call's, by what `plan_with` ensures on the account's own head; past 1 to 11 it comes to the call's work
+-- (`plan-works`), and what is carried out is then the call's outcome.
+use Rattle.common.proofs.Words.{_≡_, refl, sym, ap, _∙_, List, ℕ, _≤_, arith, length, replicate, needs}
 use Rattle.lists.proofs.Pad.{length-of-mapped, length-take-most}
-use Rattle.meter.specs.declared.Estimate.{Estimate}
-use Rattle.meter.specs.declared.Volumes.{Volumes}
-use Rattle.meter.specs.Sharing.{volumesOf}
-use Rattle.ledger.specs.Entries.{EntryBounds}
-use Rattle.intake.specs.declared.Head.{Head}
-use Rattle.intake.specs.declared.Call.{Call}
+use Rattle.meter.specs.{declared.Estimate.Estimate, declared.Volumes.Volumes, Sharing.volumesOf}
+use Rattle.intake.specs.{declared.Head.Head, declared.Call.Call, Limits.mostMisses, Refusals.firstRefusal}
+use Rattle.plan.specs.Plans.{passedPlan, passedVolumes, planned, plannedVolumes}
 use Rattle.plan.specs.declared.Plan.{Plan}
-use Rattle.intake.specs.Limits.{mostMisses}
-use Rattle.intake.specs.Refusals.{firstRefusal}
-use Rattle.intake.specs.Heads.{HeadBounds, EstimatesFit}
-use Rattle.plan.specs.Plans.{Room, passedPlan, passedVolumes, planned, plannedVolumes}
-use Rattle.closing.specs.Closing.{filledWith}
 use Rattle.plan.proofs.Planning.{planned-number, passed-plan, passed-volumes, passed-count}
 use Rattle.plan.proofs.Bounds.{entry-within, change-room}
-use Rattle.account.specs.declared.Account.{Account}
-use Rattle.account.specs.Calls.{headOf, standingEstimates}
-use Rattle.account.specs.Outcomes.{concluded}
-use Rattle.account.specs.Works.{workOf}
-use Rattle.account.proofs.Concluding.{outcome-declined, outcome-concluded}
+use Rattle.closing.specs.Closing.{filledWith}
+use Rattle.account.specs.{declared.Account.Account, Calls.headOf, Calls.standingEstimates}
 use Rattle.account.proofs.Ready.{head-bounds, estimates-fit, misses-most, estimates-within}
-use Rattle.account.proofs.Working.{plan-works, zeros-filled}
+use Rattle.account.proofs.{Concluding.outcome-declined, Concluding.outcome-concluded, Working.plan-works, Working.zeros-filled}
 use Rattle.account.proofs.calls.answer.Statement.{statement}
 use Rattle.account.proofs.calls.answer.Tie as tie
+
+module _ (s : tie.Start) where
+  abbrev a : Account
+  a = s .args .account
+
+  abbrev h : Head
+  h = headOf a
+
+  abbrev stand : List Estimate
+  stand = standingEstimates a
+
+  abbrev call : Call
+  call = s .args .call
+
+  long : length (a .estimates .periods) ≡ mostMisses
+  long = search (length-of-mapped, needs)
+
+  six : length stand ≤ mostMisses
+  six = omega (arith, length-take-most (a .estimates .count) (a .estimates .periods), misses-most a (s .pre))
 
 abbrev start : tie.After-plan-with → tie.Start
 start c = c .before .before .before .before
@@ -37,84 +41,60 @@ start c = c .before .before .before .before
 abbrev lent : tie.After-plan-with → List ℕ
 lent c = c .plan-with .last .1 .1 .1 .0
 
-module _ (c : tie.After-plan-with) where
-  abbrev a : Account
-  a = start c .args .account
+plan-is : (c : tie.After-plan-with) → let s = start c in
+    (c .plan-with .result ≡ planned (h s) (stand s) (call s))
+    × (lent c ≡ filledWith (plannedVolumes (h s) (stand s) (call s)) (replicate 7 0))
+plan-is c = rw (c .before .before .before .head-of .ensures) at (c .plan-with .ensures)
 
-  abbrev stand : List Estimate
-  stand = standingEstimates a
+number-is : (c : tie.After-plan-with) → c .plan-with .result .number ≡ firstRefusal (h (start c)) (call (start c))
+number-is c = let s = start c in ap (λ (p : Plan). p .number) (plan-is c .0) ∙ planned-number (h s) (stand s) (call s)
 
-  plan-is : c .plan-with .result ≡ planned (headOf a) stand (start c .args .call)
-  plan-is = c .plan-with .ensures .0 ∙ ap (λ (h : Head). planned h stand (start c .args .call)) (c .before .before .before .head-of .ensures)
+-- Past 1 to 11.
+module _ (c : tie.Else1) where
+  abbrev s : tie.Start
+  s = start (c .before .before)
 
-  volumes-are : lent c ≡ filledWith (plannedVolumes (headOf a) stand (start c .args .call)) (replicate 7 0)
-  volumes-are =
-      c .plan-with .ensures .1 ∙
-      ap (λ (h : Head). filledWith (plannedVolumes h stand (start c .args .call)) (replicate 7 0)) (c .before .before .before .head-of .ensures)
+  first : firstRefusal (h s) (call s) ≡ 0
+  first = sym (number-is (c .before .before)) ∙ c .if1 .left
 
-  number-is : c .plan-with .result .number ≡ firstRefusal (headOf a) (start c .args .call)
-  number-is = ap (λ (p : Plan). p .number) plan-is ∙ planned-number (headOf a) stand (start c .args .call)
+  passed : c .before .before .plan-with .result ≡ passedPlan (h s) (stand s) (call s)
+  passed = plan-is (c .before .before) .0 ∙ passed-plan (h s) (stand s) (call s) first
 
-long : (s : tie.Start) → length (s .args .account .estimates .periods) ≡ mostMisses
-long s = search (length-of-mapped, needs)
+  shown : lent (c .before .before) ≡ filledWith (passedVolumes (h s) (stand s) (call s)) (replicate 7 0)
+  shown = rw (passed-volumes (h s) (stand s) (call s) first) at (plan-is (c .before .before) .1)
 
 plan-with-requires : tie.Need-plan-with-requires
 plan-with-requires c κs =
     let s : tie.Start = search in
-    let h : tie.After-head-of = search in
-    let a = s .args .account in
-    let same = sym (h .head-of .ensures) in
-    (subst HeadBounds same (head-bounds a (s .pre)), (subst (λ (x : Head). EstimatesFit x (a .estimates)) same (estimates-fit a (s .pre) (long s)), refl))
+    let k : tie.After-head-of = search in
+    rw (k .head-of .ensures) (record { bounds = head-bounds (a s) (s .pre); fit = estimates-fit (a s) (s .pre) (long s); long = refl })
 
 returns : tie.Need-returns
 returns c =
     let p : tie.After-plan-with = search in
     let s = start p in
-    c .decline .ensures ∙ sym (outcome-declined (a p) (s .args .call) (s .pre) (p .plan-with .result .number) (number-is p) (c .before .if1 .taken))
-
--- Past 1 to 11.
-module _ (c : tie.Else1) where
-  abbrev at : tie.After-plan-with
-  at = c .before .before
-
-  abbrev call : Call
-  call = start at .args .call
-
-  first : firstRefusal (headOf (a at)) call ≡ 0
-  first = sym (number-is at) ∙ c .if1 .left
-
-  passed : at .plan-with .result ≡ passedPlan (headOf (a at)) (stand at) call
-  passed = plan-is at ∙ passed-plan (headOf (a at)) (stand at) call first
-
-  shown : lent at ≡ filledWith (passedVolumes (headOf (a at)) (stand at) call) (replicate 7 0)
-  shown = volumes-are at ∙ ap (λ volumes. filledWith volumes (replicate 7 0)) (passed-volumes (headOf (a at)) (stand at) call first)
+    c .decline .ensures ∙ sym (outcome-declined (a s) (call s) (s .pre) _ (number-is p) (c .before .if1 .taken))
 
 carry-out-requires : tie.Need-carry-out-requires
 carry-out-requires c κs =
-    let p = at c in
-    let e = start p .pre in
-    let six : length (stand p) ≤ mostMisses = omega (arith, length-take-most (a p .estimates .count) (a p .estimates .periods), misses-most (a p) e) in
-    let same = sym (passed c) in (
-      e,
-      (
-        subst (λ (x : Plan). Room (x .change) (a p .estimates .count)) same (change-room (headOf (a p)) (stand p) (call c) (first c)),
-        subst (λ (x : Plan). EntryBounds (x .entry)) same (entry-within (headOf (a p)) (head-bounds (a p) e) (stand p) six (estimates-within (a p) e) (call c) (first c)),
-      ),
-    )
+    let at = s c in
+    let e = at .pre in
+    let room = change-room (h at) (stand at) (call at) (first c) in
+    let within = entry-within (h at) (head-bounds (a at) e) (stand at) (six at) (estimates-within (a at) e) (call at) (first c) in
+    rw (passed c) (e, (room, within))
 
 returns-2 : tie.Need-returns-2
 returns-2 c =
     let one : tie.Else1 = search in
-    let p = at one in
-    let s = start p in
-    let h = headOf (a p) in
-    let final = passedVolumes h (stand p) (call one) in
-    let count = ap (λ (x : Plan). x .count) (passed one) ∙ passed-count h (stand p) (call one) in
+    let p = one .before .before in
+    let at = s one in
+    let final = passedVolumes (h at) (stand at) (call at) in
+    let count = ap (λ (x : Plan). x .count) (passed one) ∙ passed-count (h at) (stand at) (call at) in
     let volumes : _≡_ {A = Volumes} (record { count = p .plan-with .result .count; volumes = lent p }) (volumesOf final) =
     (λ i. record { count = count i; volumes = shown one i }) ∙ zeros-filled final
     in
-    c .carry-out .ensures final volumes ∙ ap (λ x. concluded (a p) (workOf x final (a p .estimates) (a p .ledger))) (passed one) ∙
-    ap (concluded (a p)) (plan-works (a p) (call one)) ∙ sym (outcome-concluded (a p) (call one) (s .pre) (first one))
+    let concludes = outcome-concluded (a at) (call at) (at .pre) (first one) in
+    rw (concludes, ← plan-works (a at) (call at), ← passed one) (c .carry-out .ensures final volumes)
 
 pub answer-spec : {M : Type 1} → statement M
 answer-spec =

@@ -1,4 +1,4 @@
-use borrow.Author.Needs.{needs}
+use Rattle.common.proofs.Words.{needs}
 use Rattle.account.proofs.whole.blank_item.Statement.{statement}
 use Rattle.account.proofs.whole.blank_item.Tie as tie
 

@@ -1,16 +1,9 @@
--- What was gathered is the test over the places passed. By `same-replicate` an array agrees with that of a new account where each place is blank.
-use mathlib.Core.Path.{_≡_, refl, sym, _∙_}
-use mathlib.Core.Bool.{Bool}
-use Prim.Native.Nat.{_-_, _≤_}
-use native.Mathlib.Omega.{arith}
-use native.Mathlib.Numerals.{add-one}
-use lib.ListN.{length, take}
-use borrow.Author.Needs.{needs}
+-- What was gathered is the test over the places passed. By `same-replicate` an array agrees with that of a new account where each
+-- place is blank.
+use Rattle.common.proofs.Words.{_≡_, refl, sym, _∙_, Bool, _-_, _≤_, arith, add-one, length, take, needs}
 use Rattle.lists.specs.Every.{every}
-use Rattle.lists.proofs.Every.{every-suc, same-replicate}
-use Rattle.lists.proofs.Pad.{length-of-mapped}
-use Rattle.ledger.specs.declared.Item.{Item}
-use Rattle.ledger.specs.Posting.{blank}
+use Rattle.lists.proofs.{Every.every-suc, Every.same-replicate, Pad.length-of-mapped}
+use Rattle.ledger.specs.{declared.Item.Item, Posting.blank, Limits.capacity}
 use Rattle.account.specs.Whole.{sameItem}
 use Rattle.account.proofs.whole.blank_items.Statement.{statement}
 use Rattle.account.proofs.whole.blank_items.Tie as tie
@@ -19,36 +12,31 @@ abbrev isBlank : Item → Bool
 isBlank item = sameItem item blank
 
 abbrev Inv-loop : tie.InvT-loop
-Inv-loop ledger blank₀ i₀ blank i = (i ≤ 72) × (blank ≡ every isBlank (take i (ledger .items)))
+Inv-loop ledger blank₀ i₀ blank i = (i ≤ capacity) × (blank ≡ every isBlank (take i (ledger .items)))
 
 abbrev μ-loop : tie.MeasureT-loop
-μ-loop ledger blank₀ i₀ blank i = 72 - i
+μ-loop ledger blank₀ i₀ blank i = capacity - i
 
-abbrev Walk : (tie.InvT-loop → tie.MeasureT-loop → Type 0) → Type 0
-Walk T = T Inv-loop μ-loop
-
-loop-again : Walk tie.Need-loop-again
+loop-again : tie.Need-loop-again Inv-loop μ-loop
 loop-again c =
-    let l : Walk tie.At-loop = search in
+    let l : tie.At-loop Inv-loop μ-loop = search in
     let places = l .before .args .t1 .items in
-    let long : length places ≡ 72 = search (length-of-mapped, needs) in
+    let long : length places ≡ capacity = search (length-of-mapped, needs) in
     let next = every-suc isBlank places (l .loop .i) blank (omega arith) in
     (omega arith, rw (add-one (l .loop .i), next) (cc))
 
-returns : Walk tie.Need-returns
+returns : tie.Need-returns Inv-loop μ-loop
 returns c =
-    let l : Walk tie.At-loop = search in
+    let l : tie.At-loop Inv-loop μ-loop = search in
     let places = l .before .args .t1 .items in
-    let long : length places ≡ 72 = search (length-of-mapped, needs) in
-    let done : l .loop .i ≡ 72 = omega arith in
-    rw done at (l .loop .inv .1) ∙ sym (same-replicate sameItem blank places 72 long)
+    let long : length places ≡ capacity = search (length-of-mapped, needs) in
+    let done : l .loop .i ≡ capacity = omega arith in
+    rw done at (l .loop .inv .1) ∙ sym (same-replicate sameItem blank places capacity long)
 
 pub blank-items-spec : {M : Type 1} → statement M
 blank-items-spec =
     tie.close
-    (tie.spec
-    Inv-loop
-    μ-loop
+    (tie.spec Inv-loop μ-loop
     (λ c. (omega arith, refl))  -- loop-holds
     (λ c. search needs)  -- mul-item
     (λ c. search needs)  -- element-copy-out-item

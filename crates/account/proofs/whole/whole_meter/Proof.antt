@@ -1,42 +1,29 @@
 -- Digits and the number of estimates are asked first: the span and the walk over the estimates need them.
-use mathlib.Core.Path.{_≡_}
-use mathlib.Core.Bool.{true, and-true, and-false}
-use borrow.Author.Tests.{le-leb, lt-leb}
-use borrow.Author.Needs.{needs}
+use Rattle.common.proofs.Words.{_≡_, true, and-true, and-false, le-leb, lt-leb, needs}
 use Rattle.account.specs.Whole.{wholeMeter}
 use Rattle.intake.specs.Limits.{digitsAllowed}
-use Rattle.intake.proofs.Tests.{answered-no, answered-yes, within-low, within-high}
+use Rattle.common.proofs.Tests.{answered-no, answered-yes, within-true}
 use Rattle.account.proofs.whole.whole_meter.Statement.{statement}
 use Rattle.account.proofs.whole.whole_meter.Tie as tie
 
 digits : (c : tie.Else1) → digitsAllowed (c .before .before .before .args .account .meter .digits) ≡ true
 digits c = answered-yes (c .before .digits-allowed .ensures) (c .if1 .left)
 
-returns : tie.Need-returns
-unfolding wholeMeter
-returns c = simp (answered-no (c .before .digits-allowed .ensures) (c .if1 .taken), and-false)
-
-returns-2 : tie.Need-returns-2
-unfolding wholeMeter
-returns-2 c = simp (lt-leb _ _ (c .if2 .taken), and-false)
-
-on-dial-requires : tie.Need-on-dial-requires
-on-dial-requires c κs = let one : tie.Else1 = search in
-    (within-low 4 5 _ (digits one), within-high 4 5 _ (digits one))
-
 returns-3 : tie.Need-returns-3
 unfolding wholeMeter
-returns-3 c = let one : tie.Else1 = search in
+returns-3 c =
+    let one : tie.Else1 = search in
     let two : tie.Else2 = search in
     simp (digits one, le-leb _ _ (two .if2 .left), and-true) (cc)
 
 pub whole-meter-spec : {M : Type 1} → statement M
+unfolding wholeMeter
 whole-meter-spec =
     tie.close
     (tie.spec
     (λ c κs. search needs)  -- digits-allowed-requires
-    returns
-    returns-2
-    on-dial-requires
+    (λ c. simp (answered-no (c .before .digits-allowed .ensures) (c .if1 .taken), and-false))  -- returns
+    (λ c. simp (lt-leb _ _ (c .if2 .taken), and-false))  -- returns-2
+    (λ c κs. let one : tie.Else1 = search in within-true 4 5 _ (digits one))  -- on-dial-requires
     (λ c κs. search needs)  -- whole-estimates-requires
     returns-3)

@@ -1,66 +1,35 @@
-use mathlib.Core.Path.{_≡_, refl, sym, _∙_}
-use mathlib.Core.Bool.{true, false}
-use Prim.Native.Nat.{_+_, _-_}
-use native.Mathlib.Omega.{arith}
-use borrow.Author.Tests.{not-true, not-false}
-use borrow.Author.Needs.{needs}
-use Rattle.calendar.specs.declared.Date.{Date}
-use Rattle.calendar.specs.Gregorian.{dayNumber}
-use Rattle.calendar.specs.Conversions.{firstNumber, isDate, fromDate, InCentury}
-use Rattle.calendar.proofs.RoundTrip.{Tested, tested, number-within}
-use Rattle.calendar.proofs.Day.from_date.Statement.{statement}
+use Rattle.common.proofs.Words.{_≡_, refl, sym, _∙_, true, _+_, _-_, arith, not-true, not-false, needs}
+use Rattle.calendar.specs.{declared.Date.Date, Gregorian.dayNumber, Conversions.firstNumber, Conversions.isDate, Conversions.fromDate}
+use Rattle.calendar.proofs.{RoundTrip.Tested, RoundTrip.tested, RoundTrip.number-within, Day.from_date.Statement.statement}
 use Rattle.calendar.proofs.Day.from_date.Tie as tie
 
-abbrev months-over : tie.After-struct-known2 → tie.After-days-before-month
-months-over c = c .before
+-- The date passed the test.
+module _ (c : tie.Else1) where
+  abbrev date : Date
+  date = c .before .before .args .date
+
+  is-date : isDate date ≡ true
+  is-date = sym (c .before .is-date .ensures) ∙ not-false _ (c .if1 .left)
+
+  passed : Tested date
+  passed = tested date is-date
 
 abbrev years-over : tie.After-days-before-month → tie.After-days-before-year
 years-over c = c .before .before
 
-abbrev date : tie.Else1 → Date
-date c = c .before .before .args .date
-
--- the date passed the test
-is-date : (c : tie.Else1) → isDate (date c) ≡ true
-is-date c = sym (c .before .is-date .ensures) ∙ not-false _ (c .if1 .left)
-
-passed : (c : tie.Else1) → Tested (date c)
-passed c = tested (date c) (is-date c)
-
-in-century : (c : tie.Else1) → InCentury (date c .year)
-in-century c = record { from-2000 = passed c .valid .from-2000; to-2099 = passed c .to-2099 }
-
 -- the days of the years, of the months and of the month that are over, counted from the first day
-number-is : (c : tie.After-days-before-month)
-    → firstNumber + years-over c .days-before-year .result + c .days-before-month .result + (date (years-over c .before) .day - 1)
-    ≡ dayNumber (date (years-over c .before))
+number-is : (c : tie.After-days-before-month) → let y = years-over c in
+    firstNumber + y .days-before-year .result + c .days-before-month .result + (date (y .before) .day - 1) ≡ dayNumber (date (y .before))
 unfolding dayNumber
 number-is c = omega (arith, years-over c .days-before-year .ensures, c .days-before-month .ensures)
 
 returns : tie.Need-returns
 unfolding fromDate
-returns c =
-    let none : isDate (c .before .before .args .date) ≡ false = sym (c .before .is-date .ensures) ∙ not-true _ (c .if1 .taken) in
-    rw none
-
-add-before : tie.Need-add-before
-add-before c =
-    let test : tie.Else1 = search in
-    omega (arith, number-is c, number-within (date test) (passed test))
-
-sub-t7 : tie.Need-sub-t7
-sub-t7 c =
-    let test : tie.Else1 = search in
-    passed test .valid .from-first
-
-add-t8 : tie.Need-add-t8
-add-t8 c =
-    let test : tie.Else1 = search in
-    omega (arith, number-is (months-over c), number-within (date test) (passed test))
+returns c = rw (sym (c .before .is-date .ensures) ∙ not-true _ (c .if1 .taken))
 
 returns-2 : tie.Need-returns-2
 unfolding fromDate
-returns-2 c = rw (is-date (years-over (months-over c) .before), ← number-is (months-over c)) refl
+returns-2 c = rw (is-date (years-over (c .before) .before), ← number-is (c .before)) refl
 
 pub from-date-spec : {M : Type 1} → statement M
 from-date-spec =
@@ -70,8 +39,8 @@ from-date-spec =
     returns
     (λ c κs. (passed c .valid .from-2000, omega (arith, passed c .to-2099)))  -- days-before-year-requires
     (λ c. omega (arith, c .before .days-before-year .ok))  -- add-years
-    (λ c κs. let test : tie.Else1 = search in (in-century test, omega (arith, passed test .valid .in-year)))  -- days-before-month-requires
-    add-before
-    sub-t7
-    add-t8
+    (λ c κs. let e : tie.Else1 = search in omega (arith, passed e))  -- days-before-month-requires
+    (λ c. let e : tie.Else1 = search in omega (arith, number-is c, number-within (date e) (passed e)))  -- add-before
+    (λ c. let e : tie.Else1 = search in passed e .valid .from-first)  -- sub-t7
+    (λ c. let e : tie.Else1 = search in omega (arith, number-is (c .before), number-within (date e) (passed e)))  -- add-t8
     returns-2)

@@ -1,5 +1,4 @@
-use mathlib.Core.Path.{refl}
-use borrow.Author.Needs.{needs}
+use Rattle.common.proofs.Words.{needs}
 use Rattle.intake.proofs.limits.on_dial.Statement.{statement}
 use Rattle.intake.proofs.limits.on_dial.Tie as tie
 
@@ -8,4 +7,4 @@ on-dial-spec =
     tie.close
     (tie.spec
     (λ c κs. search needs)  -- dial-span-requires
-    (λ c. rw (c .dial-span .ensures) refl))  -- returns
+    (λ c. rw (c .dial-span .ensures)))  -- returns

@@ -1,5 +1,5 @@
-use mathlib.Core.Path.{refl}
-use borrow.Author.Tests.{le-leb, lt-leb}
+use Rattle.common.proofs.Words.{le-leb, lt-leb}
+use Rattle.intake.specs.Limits.{mostFuelPrice}
 use Rattle.intake.proofs.limits.price_allowed.Statement.{statement}
 use Rattle.intake.proofs.limits.price_allowed.Tie as tie
 
@@ -7,5 +7,5 @@ pub price-allowed-spec : {M : Type 1} → statement M
 price-allowed-spec =
     tie.close
     (tie.spec
-    (λ c. rw (le-leb (c .before .args .price) 300000 (c .if1 .taken)) refl)  -- returns
-    (λ c. rw (lt-leb (c .before .args .price) 300000 (c .if1 .left)) refl))  -- returns-2
+    (λ c. rw (le-leb (c .before .args .price) mostFuelPrice (c .if1 .taken)))  -- returns
+    (λ c. rw (lt-leb (c .before .args .price) mostFuelPrice (c .if1 .left))))  -- returns-2

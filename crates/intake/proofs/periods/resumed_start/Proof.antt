@@ -1,6 +1,4 @@
-use mathlib.Core.Path.{refl}
-use borrow.Author.Tests.{eq-eqb, ne-eqb}
-use borrow.Author.Needs.{needs}
+use Rattle.common.proofs.Words.{eq-eqb, ne-eqb, needs}
 use Rattle.intake.proofs.periods.resumed_start.Statement.{statement}
 use Rattle.intake.proofs.periods.resumed_start.Tie as tie
 
@@ -9,5 +7,5 @@ resumed-start-spec =
     tie.close
     (tie.spec
     (λ c. search needs)  -- add-result
-    (λ c. rw (eq-eqb _ _ (c .if1 .taken)) refl)  -- returns
-    (λ c. rw (ne-eqb _ _ (c .if1 .left)) refl))  -- returns-2
+    (λ c. rw (eq-eqb _ _ (c .if1 .taken)))  -- returns
+    (λ c. rw (ne-eqb _ _ (c .if1 .left))))  -- returns-2

@@ -1,17 +1,8 @@
 -- A sum from the front; each item adds at most what one can owe.
-use mathlib.Core.Path.{_≡_, refl}
-use Prim.Native.Nat.{_-_, _*_, _≤_}
-use native.Mathlib.Omega.{arith}
-use native.Mathlib.Numerals.{add-one}
-use lib.ListN.{length, getD, take}
-use borrow.Author.Needs.{needs}
-use Rattle.lists.proofs.Sum.{total-suc}
-use Rattle.lists.proofs.Pad.{length-of-mapped}
-use Rattle.ledger.specs.Limits.{capacity, mostInterest}
-use Rattle.ledger.specs.Settling.{unpaidOf}
-use Rattle.ledger.specs.Posting.{blank}
-use Rattle.ledger.proofs.Bounds.{bounds-at}
-use Rattle.ledger.proofs.Ledger.unpaid.Statement.{statement}
+use Rattle.common.proofs.Words.{_≡_, refl, _-_, _*_, _≤_, arith, add-one, length, getD, take, needs}
+use Rattle.lists.proofs.{Sum.total-suc, Pad.length-of-mapped}
+use Rattle.ledger.specs.{Limits.capacity, Limits.mostInterest, Settling.unpaidOf, Posting.blank}
+use Rattle.ledger.proofs.{Bounds.bounds-at, Ledger.unpaid.Statement.statement}
 use Rattle.ledger.proofs.Ledger.unpaid.Tie as tie
 
 abbrev Inv-loop : tie.InvT-loop

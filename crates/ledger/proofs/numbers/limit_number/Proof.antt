@@ -1,4 +1,4 @@
-use borrow.Author.Tests.{le-leb, lt-leb}
+use Rattle.common.proofs.Words.{le-leb, lt-leb}
 use Rattle.ledger.specs.Limits.{capacity, mostCredit}
 use Rattle.ledger.proofs.numbers.limit_number.Statement.{statement}
 use Rattle.ledger.proofs.numbers.limit_number.Tie as tie

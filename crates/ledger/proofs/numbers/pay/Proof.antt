@@ -1,7 +1,4 @@
-use Prim.Native.Nat.{_-_}
-use native.Mathlib.Omega.{arith}
-use borrow.Author.Tests.{eq-eqb, ne-eqb}
-use borrow.Author.Needs.{needs}
+use Rattle.common.proofs.Words.{_-_, arith, eq-eqb, ne-eqb, needs}
 use Rattle.ledger.specs.Numbers.{paying}
 use Rattle.ledger.proofs.numbers.pay.Statement.{statement}
 use Rattle.ledger.proofs.numbers.pay.Tie as tie

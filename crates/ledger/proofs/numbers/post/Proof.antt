@@ -1,5 +1,4 @@
-use borrow.Author.Tests.{le-leb, lt-leb}
-use borrow.Author.Needs.{needs}
+use Rattle.common.proofs.Words.{le-leb, lt-leb, needs}
 use Rattle.ledger.specs.Numbers.{posting}
 use Rattle.ledger.proofs.numbers.post.Statement.{statement}
 use Rattle.ledger.proofs.numbers.post.Tie as tie

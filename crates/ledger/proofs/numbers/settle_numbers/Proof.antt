@@ -1,12 +1,9 @@
--- The steps one after another; each leaves at most one more open item, and owes at most its amount more (`Steps`).
-use mathlib.Core.Path.{sym, subst}
-use Prim.Native.Nat.{_+_, _-_, _≤_}
-use native.Mathlib.Omega.{arith}
-use borrow.Author.Needs.{needs}
-use Rattle.ledger.specs.declared.numbers.Step.{Step}
+-- The steps one after another: money comes in, then interest held, the charge and the interest that arose are posted. Each posting
+-- leaves at most one more open item, and at most its amount more is owed (`Steps`), so that no sum overflows.
+use Rattle.common.proofs.Words.{_+_, _-_, _≤_, arith, needs}
 use Rattle.ledger.specs.Numbers.{tallyIn, settledBy}
-use Rattle.ledger.proofs.Steps.{cond-most, StepMost, posting-most, paying-most}
-use Rattle.ledger.proofs.numbers.settle_numbers.Statement.{statement}
+use Rattle.common.proofs.Cases.{cond-most}
+use Rattle.ledger.proofs.{Steps.StepMost, Steps.posting-most, Steps.paying-most, numbers.settle_numbers.Statement.statement}
 use Rattle.ledger.proofs.numbers.settle_numbers.Tie as tie
 
 -- Places: money has come in, interest held is asked and posted, the charge, and the interest that arose.
@@ -30,25 +27,18 @@ with-charge c = c .before .before .before .before
 
 pay-most : (c : tie.After-pay) → StepMost (c .pay .result) (start c .args .queue .count) (start c .args .queue .owed)
 pay-most c =
-    let s = start c in
-    subst (λ (x : Step). StepMost x (s .args .queue .count) (s .args .queue .owed)) (sym (c .pay .ensures))
-    (paying-most (tallyIn (s .args .queue)) (s .args .queue .credit + s .args .entry .money) (s .args .cover))
+    let a = start c .args in
+    paying-most (tallyIn (a .queue)) (a .queue .credit + a .entry .money) (a .cover) (c .pay .ensures)
 
 post-most : (c : tie.After-post) →
     let before = paid (held c) .pay .result .tally in
     StepMost (c .post .result) (before .count + 1) (before .owed + held c .only .result)
-post-most c =
-    let before = paid (held c) .pay .result .tally in
-    let amount = held c .only .result in
-    subst (λ (x : Step). StepMost x (before .count + 1) (before .owed + amount)) (sym (c .post .ensures)) (posting-most before amount)
+post-most c = posting-most (paid (held c) .pay .result .tally) (held c .only .result) (c .post .ensures)
 
 post-most-2 : (c : tie.After-post2) →
     let before = with-held (charge c) .post .result .tally in
     StepMost (c .post2 .result) (before .count + 1) (before .owed + charge c .only2 .result)
-post-most-2 c =
-    let before = with-held (charge c) .post .result .tally in
-    let amount = charge c .only2 .result in
-    subst (λ (x : Step). StepMost x (before .count + 1) (before .owed + amount)) (sym (c .post2 .ensures)) (posting-most before amount)
+post-most-2 c = posting-most (with-held (charge c) .post .result .tally) (charge c .only2 .result) (c .post2 .ensures)
 
 held-most : (c : tie.After-only) → c .only .result ≤ start (paid c) .args .queue .held
 held-most c = let s = start (paid c) in omega (arith, c .only .ensures, cond-most (s .args .entry .closes) (s .args .queue .held))
@@ -74,23 +64,16 @@ module _ (c : tie.After-only3) where
 post-requires : tie.Need-post-requires
 post-requires c κs =
     let b = start (paid c) .pre in
-    let p = pay-most (paid c) in (
-      omega (arith, p .count-most, b .count-most),
-      (omega (arith, p .owed-most, b .owed-most), omega (arith, held-most c, b .held-most)),
-    )
+    let p = pay-most (paid c) in
+    (omega (arith, p, b), (omega (arith, p, b), omega (arith, held-most c, b)))
 
 post-requires-2 : tie.Need-post-requires-2
 post-requires-2 c κs =
     let h = held (with-held c) in
     let b = start (paid h) .pre in
     let p = pay-most (paid h) in
-    let q = post-most (with-held c) in (
-      omega (arith, p .count-most, q .count-most, b .count-most),
-      (
-        omega (arith, p .owed-most, q .owed-most, held-most h, b .owed-most, b .held-most),
-        omega (arith, charge-most c, b .charge-most),
-      ),
-    )
+    let q = post-most (with-held c) in
+    (omega (arith, p, q, b), (omega (arith, p, q, held-most h, b), omega (arith, charge-most c, b)))
 
 post-requires-3 : tie.Need-post-requires-3
 post-requires-3 c κs =
@@ -99,29 +82,13 @@ post-requires-3 c κs =
     let b = s c .pre in
     let p = pay-most (paid h) in
     let q = post-most (with-held d) in
-    let r = post-most-2 (with-charge c) in (
-      omega (arith, p .count-most, q .count-most, r .count-most, b .count-most),
-      (
-        omega (
-          arith,
-          p .owed-most,
-          q .owed-most,
-          r .owed-most,
-          held-most h,
-          charge-most d,
-          b .owed-most,
-          b .held-most,
-          b .charge-most,
-        ),
-        omega (arith, arisen-most c, b .held-most, b .arisen-most),
-      ),
-    )
+    let r = post-most-2 (with-charge c) in
+    (omega (arith, p, q, r, b), (omega (arith, p, q, r, held-most h, charge-most d, b), omega (arith, arisen-most c, b)))
 
 add-front : tie.Need-add-t19
 add-front c =
     let k : tie.After-only3 = search in
-    let b = s k .pre in
-    record { fits = omega (arith, b .front-most, b .count-most, b .covered-most) }
+    record { fits = omega (arith, s k .pre) }
 
 returns : tie.Need-returns
 unfolding settledBy

@@ -1,5 +1,4 @@
-use mathlib.Core.Path.{refl}
-use borrow.Author.Needs.{needs}
+use Rattle.common.proofs.Words.{refl, needs}
 use Rattle.lines.proofs.State.new.Statement.{statement}
 use Rattle.lines.proofs.State.new.Tie as tie
 

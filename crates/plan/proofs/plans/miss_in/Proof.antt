@@ -1,8 +1,5 @@
-use mathlib.Core.Path.{sym, ap}
-use borrow.Author.Needs.{needs}
-use Rattle.plan.specs.Plans.{missIn}
-use Rattle.plan.proofs.Planning.{no-miss}
-use Rattle.plan.proofs.plans.miss_in.Statement.{statement}
+use Rattle.common.proofs.Words.{sym, needs}
+use Rattle.plan.proofs.{Planning.no-miss, plans.miss_in.Statement.statement}
 use Rattle.plan.proofs.plans.miss_in.Tie as tie
 
 pub miss-in-spec : {M : Type 1} → statement M
@@ -11,6 +8,6 @@ miss-in-spec =
     (tie.spec
     (λ c. search needs)  -- Missed
     (λ c. search needs)  -- Absent
-    (λ c. sym (ap missIn (c .before .call .given .1)))  -- returns
-    (λ c. sym (ap missIn (c .before .call2 .given .1)))  -- returns-2
+    (λ c. rw (c .before .call .given .1))  -- returns
+    (λ c. rw (c .before .call2 .given .1))  -- returns-2
     (λ c. sym (no-miss (c .before .args .call) (c .match .keys3) .1)))  -- returns-3

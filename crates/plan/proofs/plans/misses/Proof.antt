@@ -1,7 +1,5 @@
-use mathlib.Core.Path.{sym}
-use borrow.Author.Needs.{needs}
-use Rattle.plan.proofs.Planning.{no-miss}
-use Rattle.plan.proofs.plans.misses.Statement.{statement}
+use Rattle.common.proofs.Words.{sym, needs}
+use Rattle.plan.proofs.{Planning.no-miss, plans.misses.Statement.statement}
 use Rattle.plan.proofs.plans.misses.Tie as tie
 
 pub misses-spec : {M : Type 1} → statement M

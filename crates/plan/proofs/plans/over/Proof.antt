@@ -1,6 +1,4 @@
-use mathlib.Core.Path.{sym, _∙_}
-use mathlib.Core.Bool.{false≢true}
-use borrow.Author.Needs.{needs}
+use Rattle.common.proofs.Words.{sym, _∙_, false≢true, needs}
 use Rattle.plan.proofs.plans.over.Statement.{statement}
 use Rattle.plan.proofs.plans.over.Tie as tie
 

@@ -1,22 +1,12 @@
-use mathlib.Core.Path.{_≡_, sym, ap, _∙_}
-use borrow.Author.Needs.{needs}
-use Rattle.intake.specs.Statuses.{isStopped, stopOf}
-use Rattle.intake.specs.Periods.{resumedStart}
-use Rattle.intake.specs.Refusals.{dialRefusal}
-use Rattle.plan.specs.Plans.{begunPlan}
+use Rattle.common.proofs.Words.{_≡_, sym, _∙_, ne-eqb, needs}
+use Rattle.intake.specs.{Statuses.isStopped, Refusals.dialRefusal}
 use Rattle.intake.proofs.Passed.{dial-passed}
-use Rattle.plan.proofs.Planning.{plan-declined, plan-passed}
 use Rattle.plan.proofs.plans.plan_reconnection.Statement.{statement}
 use Rattle.plan.proofs.plans.plan_reconnection.Tie as tie
 
-number-is : (c : tie.After-dial-refusal)
-    → let s = c .before .before .args in c .dial-refusal .result ≡ dialRefusal (isStopped (s .head .status)) (s .head) (s .day) (s .reading) (s .digits)
+number-is : (c : tie.After-dial-refusal) → let s = c .before .before .args in
+    c .dial-refusal .result ≡ dialRefusal (isStopped (s .head .status)) (s .head) (s .day) (s .reading) (s .digits)
 number-is c = rw (← c .before .is-stopped .ensures) (c .dial-refusal .ensures)
-
-returns : tie.Need-returns
-returns c =
-    let d : tie.After-dial-refusal = search in
-    c .quiet .ensures ∙ plan-declined (number-is d) (c .before .if1 .taken) _ _
 
 resumed-start-requires : tie.Need-resumed-start-requires
 resumed-start-requires c κs =
@@ -29,11 +19,8 @@ returns-2 : tie.Need-returns-2
 returns-2 c =
     let d : tie.After-dial-refusal = search in
     let one : tie.Else1 = search in
-    let s = d .before .before .args in
-    let start : c .before .resumed-start .result ≡ resumedStart (stopOf (s .head .status)) (s .day) =
-    rw (← c .before .before .stop-of .ensures) (c .before .resumed-start .ensures)
-    in
-    c .begin-period .ensures ∙ ap (begunPlan (s .head) (s .day) (s .reading) (s .digits)) start ∙ plan-passed (number-is d) (one .if1 .left) _ _
+    let begun = c .before .resumed-start .ensures in
+    rw (c .begin-period .ensures, begun, c .before .before .stop-of .ensures, ← number-is d, one .if1 .left)
 
 pub plan-reconnection-spec : {M : Type 1} → statement M
 plan-reconnection-spec =
@@ -42,7 +29,7 @@ plan-reconnection-spec =
     (λ c κs. search needs)  -- is-stopped-requires
     (λ c κs. search needs)  -- dial-refusal-requires
     (λ c κs. search needs)  -- quiet-requires
-    returns
+    (λ c. rw (← number-is (c .before .before), ne-eqb _ 0 (c .before .if1 .taken)) (c .quiet .ensures))  -- returns
     (λ c κs. search needs)  -- stop-of-requires
     resumed-start-requires
     (λ c κs. search needs)  -- begin-period-requires

@@ -1,7 +1,5 @@
-use mathlib.Core.Path.{sym}
-use borrow.Author.Needs.{needs}
-use Rattle.plan.proofs.Planning.{no-reading}
-use Rattle.plan.proofs.plans.reads.Statement.{statement}
+use Rattle.common.proofs.Words.{sym, needs}
+use Rattle.plan.proofs.{Planning.no-reading, plans.reads.Statement.statement}
 use Rattle.plan.proofs.plans.reads.Tie as tie
 
 pub reads-spec : {M : Type 1} → statement M

@@ -1,6 +1,4 @@
-use mathlib.Core.Path.{sym, ap}
-use borrow.Author.Needs.{needs}
-use Rattle.plan.specs.Plans.{statusAfter}
+use Rattle.common.proofs.Words.{needs}
 use Rattle.plan.proofs.plans.status_after.Statement.{statement}
 use Rattle.plan.proofs.plans.status_after.Tie as tie
 
@@ -12,6 +10,6 @@ status-after-spec =
     (λ c. search needs)  -- add
     (λ c. search needs)  -- enum-told-2
     (λ c. search needs)  -- enum-told-3
-    (λ c. sym (ap (λ next. statusAfter next (c .before .before .args .day)) (c .enum-told .given .1)))  -- returns
-    (λ c. sym (ap (λ next. statusAfter next (c .before .before .args .day)) (c .enum-told2 .given .1)))  -- returns-2
+    (λ c. rw (c .enum-told .given .1))  -- returns
+    (λ c. rw (c .enum-told2 .given .1))  -- returns-2
     (λ c. search needs))  -- returns-3

@@ -1,0 +1,2 @@
+-- The test on a range of numbers.
+pub mod Range
