@@ -1,7 +1,12 @@
 -- What holds of every element of a list. Assumes nothing.
-use Rattle.common.proofs.Words.{_≡_, refl, sym, Bool, true, _&&_, and-eq-true-iff, and-true, List, [], _∷_, _++_, reverse}
-use Rattle.common.proofs.Words.{reverse-cons, ℕ, zero, suc, _-_, _<_, not-suc-le-zero, le-of-suc-le-suc, arith, length, getD, take}
-use Rattle.common.proofs.Words.{length-take, replicate, getD-take}
+use mathlib.Core.Path.{_≡_, refl, sym}
+use mathlib.Core.Bool.{Bool, true, _&&_, and-eq-true-iff, and-true}
+use mathlib.Core.List.{List, [], _∷_, _++_, reverse, reverse-cons}
+use Prim.Native.Nat.{ℕ, zero, suc, _-_, _<_}
+use native.Mathlib.Nat.{not-suc-le-zero, le-of-suc-le-suc}
+use native.Mathlib.Omega.{arith}
+use lib.ListN.{length, getD, take, length-take, replicate}
+use lib.Seq.{getD-take}
 use mathlib.Core.Bool.{and-assoc}
 use native.Mathlib.Nat.{suc-inj}
 use Rattle.lists.specs.{Pad.pad, Every.every, Every.Every, Every.same}

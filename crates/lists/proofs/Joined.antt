@@ -1,6 +1,11 @@
 -- Laws of joined texts: two lists, one element more, and texts of one length. Assumes nothing.
-use Rattle.common.proofs.Words.{_≡_, refl, ap, _∙_, List, [], _∷_, _++_, append-assoc, append-nil, ℕ, _+_, _*_, _≤_, _<_, add-one}
-use Rattle.common.proofs.Words.{arith, length, getD, take, length-append, take-suc, length-take-le}
+use mathlib.Core.Path.{_≡_, refl, ap, _∙_}
+use mathlib.Core.List.{List, [], _∷_, _++_, append-assoc, append-nil}
+use Prim.Native.Nat.{ℕ, _+_, _*_, _≤_, _<_}
+use native.Mathlib.Numerals.{add-one}
+use native.Mathlib.Omega.{arith}
+use lib.ListN.{length, getD, take, length-append}
+use lib.Seq.{take-suc, length-take-le}
 use Rattle.lists.specs.Joined.{joined}
 
 module _ {A : Type 0} (text : A → List ℕ) where

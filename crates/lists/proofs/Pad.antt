@@ -1,7 +1,11 @@
 -- Laws of lists as arrays hold them: padded, filled from the front, and their parts. Assumes nothing.
-use Rattle.common.proofs.Words.{_≡_, sym, _∙_, List, [], _∷_, _++_, map, map-append, ℕ, zero, suc, _-_, min, _≤_, _<_, le-of-lt}
-use Rattle.common.proofs.Words.{sub-zero, arith, length, length-append, length-take, length-map, replicate, length-replicate, getD}
-use Rattle.common.proofs.Words.{set, take, drop, drop-cons, take-append-seam, take-all, take-suc, length-take-le, append-snoc}
+use mathlib.Core.Path.{_≡_, sym, _∙_}
+use mathlib.Core.List.{List, [], _∷_, _++_, map, map-append}
+use Prim.Native.Nat.{ℕ, zero, suc, _-_, min, _≤_, _<_}
+use native.Mathlib.Nat.{le-of-lt, sub-zero}
+use native.Mathlib.Omega.{arith}
+use lib.ListN.{length, length-append, length-take, length-map, replicate, length-replicate, getD, set, take, drop}
+use lib.Seq.{drop-cons, take-append-seam, take-all, take-suc, length-take-le, append-snoc}
 use native.Mathlib.{Nat.zero-sub, Nat.suc-sub-suc, Omega.min-cases}
 use lib.{ListN.List·getD-append, Seq.take-nil, Seq.set-at}
 use Rattle.lists.specs.Pad.{pad}

@@ -1,6 +1,11 @@
 -- Laws of sums over lists. Assumes nothing.
-use Rattle.common.proofs.Words.{_≡_, refl, List, [], _∷_, _++_, map, reverse, reverse-cons, ℕ, zero, suc, _+_, _*_, _≤_, _<_}
-use Rattle.common.proofs.Words.{le-refl, suc-mul, not-suc-le-zero, le-of-suc-le-suc, arith, length, getD, take, take-suc}
+use mathlib.Core.Path.{_≡_, refl}
+use mathlib.Core.List.{List, [], _∷_, _++_, map, reverse, reverse-cons}
+use Prim.Native.Nat.{ℕ, zero, suc, _+_, _*_, _≤_, _<_}
+use native.Mathlib.Nat.{le-refl, suc-mul, not-suc-le-zero, le-of-suc-le-suc}
+use native.Mathlib.Omega.{arith}
+use lib.ListN.{length, getD, take}
+use lib.Seq.{take-suc}
 use Rattle.lists.specs.{Sum.total, Every.Every}
 use Rattle.lists.proofs.Every.{every-map}
 

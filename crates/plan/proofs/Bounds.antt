@@ -1,6 +1,11 @@
 -- What a plan that 1 to 11 let pass keeps to. Assumes nothing.
-use Rattle.common.proofs.Words.{_≡_, refl, Bool, true, false, List, [], _∷_, _++_, ℕ, _+_, _≤_, arith, length, length-append}
-use Rattle.common.proofs.Words.{length-take-le}
+use mathlib.Core.Path.{_≡_, refl}
+use mathlib.Core.Bool.{Bool, true, false}
+use mathlib.Core.List.{List, [], _∷_, _++_}
+use Prim.Native.Nat.{ℕ, _+_, _≤_}
+use native.Mathlib.Omega.{arith}
+use lib.ListN.{length, length-append}
+use lib.Seq.{length-take-le}
 use Rattle.lists.specs.Every.{Every}
 use Rattle.tariff.specs.declared.Fuel.{Fuel}
 use Rattle.tariff.proofs.Bounds.{price-most}

@@ -1,5 +1,11 @@
 -- A plan by whether it is declined, and calls that look at no estimate. Assumes nothing.
-use Rattle.common.proofs.Words.{_≡_, refl, sym, _∙_, Bool, true, false, cond, false≢true, List, [], _∷_, ℕ, eqb, length, eqb-true}
+use mathlib.Core.Path.{_≡_, refl, sym, _∙_}
+use mathlib.Core.Bool.{Bool, true, false, cond, false≢true}
+use mathlib.Core.List.{List, [], _∷_}
+use Prim.Native.Nat.{ℕ}
+use lib.Dec.{eqb}
+use lib.ListN.{length}
+use borrow.Author.Tests.{eqb-true}
 use denote.Enum.Declared.{tagOf}
 use types.Run.{OneOf, miss}
 use Rattle.meter.specs.declared.Estimate.{Estimate}

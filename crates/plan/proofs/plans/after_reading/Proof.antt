@@ -1,5 +1,6 @@
 -- The net is read back from its bits; then the plan is the literal one with what the four calls ensure.
-use Rattle.common.proofs.Words.{toZ-ofZ, needs}
+use mir.Facts.{toZ-ofZ}
+use borrow.Author.Needs.{needs}
 use Rattle.closing.proofs.Nets.{net-fits}
 use Rattle.plan.proofs.plans.after_reading.Statement.{statement}
 use Rattle.plan.proofs.plans.after_reading.Tie as tie

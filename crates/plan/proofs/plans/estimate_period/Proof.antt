@@ -1,5 +1,10 @@
 -- The days and the charge are the definition's, and the charge fits its types; then the plan is the literal one.
-use Rattle.common.proofs.Words.{_≡_, _≤_, arith, toZ-pos, w32, needs}
+use mathlib.Core.Path.{_≡_}
+use Prim.Native.Nat.{_≤_}
+use native.Mathlib.Omega.{arith}
+use mir.Facts.{toZ-pos}
+use mir.Syntax.{w32}
+use borrow.Author.Needs.{needs}
 use Rattle.tariff.specs.Price.{Billable}
 use Rattle.tariff.proofs.Bounds.{price-most}
 use Rattle.intake.specs.{Limits.mostCharge, Statuses.startOf, Periods.daysOf}

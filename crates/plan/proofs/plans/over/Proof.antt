@@ -1,4 +1,6 @@
-use Rattle.common.proofs.Words.{sym, _∙_, false≢true, needs}
+use mathlib.Core.Path.{sym, _∙_}
+use mathlib.Core.Bool.{false≢true}
+use borrow.Author.Needs.{needs}
 use Rattle.plan.proofs.plans.over.Statement.{statement}
 use Rattle.plan.proofs.plans.over.Tie as tie
 

@@ -1,6 +1,9 @@
 -- A reading and a miss go by what their calls have in common (`reading-planned`, `miss-planned`); of the others, the call is the
 -- variant that was matched, and its own function ensures its plan. A call that is no reading leaves the volumes (`none-filled`).
-use Rattle.common.proofs.Words.{_≡_, refl, sym, _∙_, false, [], needs}
+use mathlib.Core.Path.{_≡_, refl, sym, _∙_}
+use mathlib.Core.Bool.{false}
+use mathlib.Core.List.{[]}
+use borrow.Author.Needs.{needs}
 use Rattle.intake.specs.Refusals.{firstRefusal}
 use Rattle.plan.specs.Plans.{passedPlan, planned, reads}
 use Rattle.plan.proofs.Planning.{none-filled, reading-planned, miss-planned, some-closing}

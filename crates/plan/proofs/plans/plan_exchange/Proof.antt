@@ -1,4 +1,6 @@
-use Rattle.common.proofs.Words.{_≡_, ne-eqb, needs}
+use mathlib.Core.Path.{_≡_}
+use borrow.Author.Tests.{ne-eqb}
+use borrow.Author.Needs.{needs}
 use Rattle.intake.specs.Refusals.{exchangeRefusal}
 use Rattle.closing.proofs.Ready.{exchange-ready}
 use Rattle.plan.proofs.plans.plan_exchange.Statement.{statement}

@@ -1,4 +1,9 @@
-use Rattle.common.proofs.Words.{sym, _∙_, _≤_, Bool, true, false, arith, ne-eqb, needs}
+use mathlib.Core.Path.{sym, _∙_}
+use Prim.Native.Nat.{_≤_}
+use mathlib.Core.Bool.{Bool, true, false}
+use native.Mathlib.Omega.{arith}
+use borrow.Author.Tests.{ne-eqb}
+use borrow.Author.Needs.{needs}
 use Rattle.intake.specs.{declared.Head.Head, Limits.mostVolume, Heads.HeadBounds}
 use Rattle.plan.specs.Plans.{missedVolume}
 use Rattle.plan.proofs.plans.plan_miss.Statement.{statement}

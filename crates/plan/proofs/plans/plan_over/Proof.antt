@@ -1,4 +1,4 @@
-use Rattle.common.proofs.Words.{needs}
+use borrow.Author.Needs.{needs}
 use Rattle.meter.specs.Sharing.{standing}
 use Rattle.plan.proofs.{Planning.reading-planned, plans.plan_over.Statement.statement}
 use Rattle.plan.proofs.plans.plan_over.Tie as tie

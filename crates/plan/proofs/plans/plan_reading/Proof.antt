@@ -1,5 +1,9 @@
 -- Declined, nothing is read; else what `close_alone` works out is what the definition works out, and its net is within bounds.
-use Rattle.common.proofs.Words.{refl, [], arith, ne-eqb, needs}
+use mathlib.Core.Path.{refl}
+use mathlib.Core.List.{[]}
+use native.Mathlib.Omega.{arith}
+use borrow.Author.Tests.{ne-eqb}
+use borrow.Author.Needs.{needs}
 use Rattle.plan.proofs.{Bounds.reading-within, plans.plan_reading.Statement.statement}
 use Rattle.plan.proofs.plans.plan_reading.Tie as tie
 

@@ -1,5 +1,10 @@
 -- Declined, nothing is read; else what `close_over` works out is what the definition works out, and its net is within bounds.
-use Rattle.common.proofs.Words.{refl, _≤_, arith, length, ne-eqb, needs}
+use mathlib.Core.Path.{refl}
+use Prim.Native.Nat.{_≤_}
+use native.Mathlib.Omega.{arith}
+use lib.ListN.{length}
+use borrow.Author.Tests.{ne-eqb}
+use borrow.Author.Needs.{needs}
 use Rattle.lists.proofs.Pad.{length-take-most}
 use Rattle.meter.specs.Sharing.{standing}
 use Rattle.intake.specs.Limits.{mostMisses}

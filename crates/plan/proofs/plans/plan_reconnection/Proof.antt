@@ -1,4 +1,6 @@
-use Rattle.common.proofs.Words.{_≡_, sym, _∙_, ne-eqb, needs}
+use mathlib.Core.Path.{_≡_, sym, _∙_}
+use borrow.Author.Tests.{ne-eqb}
+use borrow.Author.Needs.{needs}
 use Rattle.intake.specs.{Statuses.isStopped, Refusals.dialRefusal}
 use Rattle.intake.proofs.Passed.{dial-passed}
 use Rattle.plan.proofs.plans.plan_reconnection.Statement.{statement}

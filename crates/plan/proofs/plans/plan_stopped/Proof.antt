@@ -1,4 +1,5 @@
-use Rattle.common.proofs.Words.{ne-eqb, needs}
+use borrow.Author.Tests.{ne-eqb}
+use borrow.Author.Needs.{needs}
 use Rattle.plan.proofs.plans.plan_stopped.Statement.{statement}
 use Rattle.plan.proofs.plans.plan_stopped.Tie as tie
 

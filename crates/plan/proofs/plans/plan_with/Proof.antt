@@ -1,4 +1,7 @@
-use Rattle.common.proofs.Words.{_≡_, _∙_, true, [], needs}
+use mathlib.Core.Path.{_≡_, _∙_}
+use mathlib.Core.Bool.{true}
+use mathlib.Core.List.{[]}
+use borrow.Author.Needs.{needs}
 use Rattle.meter.specs.Sharing.{standing}
 use Rattle.plan.specs.Plans.{reads}
 use Rattle.plan.proofs.{Planning.plan-alone, Planning.volumes-alone, plans.plan_with.Statement.statement}

@@ -1,4 +1,5 @@
-use Rattle.common.proofs.Words.{sym, needs}
+use mathlib.Core.Path.{sym}
+use borrow.Author.Needs.{needs}
 use Rattle.plan.proofs.{Planning.no-reading, plans.reading_in.Statement.statement}
 use Rattle.plan.proofs.plans.reading_in.Tie as tie
 

@@ -1,4 +1,4 @@
-use Rattle.common.proofs.Words.{needs}
+use borrow.Author.Needs.{needs}
 use Rattle.plan.proofs.plans.status_after.Statement.{statement}
 use Rattle.plan.proofs.plans.status_after.Tie as tie
 
