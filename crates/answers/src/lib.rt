@@ -12,6 +12,12 @@ use calendar::FoundDate;
 use ledger::Item;
 use ledger::Kind;
 
+// The longest line of `bill`: seven volumes, and its LF.
+pub const LONGEST_ANSWER: usize = 117;
+
+// A notice and its LF.
+pub const NOTICE_LENGTH: usize = 35;
+
 // The two characters of every byte, one pair behind the other: made once, and lent.
 pub fn pair_table() -> [u8; 512]
     ensures { λ r. ⌜ PairTable r ⌝ }

@@ -1,14 +1,13 @@
 -- How an account and the book of the calls made on it belong together. Assumes nothing.
-use Rattle.common.proofs.Words.{_≡_, refl, ap, subst, _∙_, true, false, List, ℕ, _+_, _*_, _≤_, eqb}
+use Rattle.common.proofs.Words.{_≡_, refl, ap, subst, _∙_, true, false, List, ℕ, _+_, _≤_, eqb}
 use Rattle.lists.proofs.Pad.{take-pad}
 use Rattle.meter.specs.{declared.Meter.Meter, declared.Estimates.Estimates, Metering.poolTo, Sharing.blank, Sharing.standing}
-use Rattle.ledger.specs.Limits.{mostArisen}
 use Rattle.intake.specs.declared.Status.the-variants.{New, Supplied, Stopped, Cancelled}
 use Rattle.intake.specs.Statuses.{startOf, stopOf, isNew, isSupplied, isStopped, isCancelled}
 use Rattle.intake.specs.{declared.Status.Status, Limits.mostMisses}
 use Rattle.account.specs.declared.Account.{Account}
 use Rattle.closing.specs.Closing.{storedEstimates}
-use Rattle.account.proofs.{Facts.Facts, Facts.StatusFacts, Sound.load}
+use Rattle.account.proofs.{Facts.Facts, Facts.StatusFacts, Sound.load, Sound.mostLoad}
 use Rattle.audit.specs.Book.{Book, Metering, Period, prices, poolWith, volumeBefore, closedOn}
 use Rattle.audit.proofs.{Balance.Balanced, Balance.onLedger, Periods.AbsentZero, Periods.standingOf}
 
@@ -40,7 +39,7 @@ pub record Matched (a : Account) (b : Book) : Type 0 where
   pub balanced : Balanced (a .ledger) (b .money) (prices (b .periods))
   pub status-match : StatusMatch (a .status) b
   pub facts : StatusFacts (a .status) a
-  pub load-most : load (onLedger (b .money)) ≤ 74 * mostArisen
+  pub load-most : load (onLedger (b .money)) ≤ mostLoad
 
 -- A status by its test.
 new-is : (status : Status) → isNew status ≡ true → status ≡ New

@@ -1,13 +1,13 @@
 -- 01, 05 and 07: calls that close nothing and move no money keep account and book together. Assumes nothing.
-use Rattle.common.proofs.Words.{_≡_, refl, ap, sym, subst, inl, Bool, false, cond, ℕ, _+_, _*_, _≤_, le-refl, arith, eqb}
+use Rattle.common.proofs.Words.{_≡_, refl, ap, sym, subst, inl, Bool, false, cond, ℕ, _+_, _≤_, le-refl, arith, eqb}
 use Rattle.lists.specs.Every.{Every}
 use Rattle.common.proofs.Cases.{by-cond}
 use Rattle.lists.proofs.Every.{every-map}
-use Rattle.ledger.specs.{declared.Ledger.Ledger, Limits.mostArisen, Posting.Standing, Posting.standing}
+use Rattle.ledger.specs.{declared.Ledger.Ledger, Posting.Standing, Posting.standing}
 use Rattle.account.specs.{declared.Account.Account, Calls.headOf, Calls.standingEstimates}
 use Rattle.intake.specs.{Limits.mostVolume, Limits.mostMisses, Statuses.stopOf, Statuses.isNew, Statuses.isStopped, Periods.resumedStart}
 use Rattle.intake.specs.Heads.{EstimateBounds}
-use Rattle.account.proofs.{Facts.ItemFacts, Facts.LedgerFacts, Facts.new-facts, Sound.item-later, Sound.load}
+use Rattle.account.proofs.{Facts.ItemFacts, Facts.LedgerFacts, Facts.new-facts, Sound.item-later, Sound.load, Sound.mostLoad}
 use Rattle.intake.proofs.Passed.{DialPassed, ExchangePassed}
 use Rattle.audit.specs.Book.{Book, closedOn, settled, acceptMeter, begun, exchanged}
 use Rattle.audit.proofs.Balance.{onLedger, settled-same, quiet-balanced, finished-open}
@@ -21,9 +21,9 @@ ledger-later {latest} {day} {ledger} h w =
     search
 
 -- The money of the book after such a call.
-load-same : {a : Account} {b : Book} (day : ℕ) → Matched a b → load (onLedger (settled (b .money) day)) ≤ 74 * mostArisen
+load-same : {a : Account} {b : Book} (day : ℕ) → Matched a b → load (onLedger (settled (b .money) day)) ≤ mostLoad
 load-same day w =
-    subst (λ (s : Standing). load s ≤ 74 * mostArisen) (sym (settled-same day (w .balanced .kept))) (w .load-most)
+    subst (λ (s : Standing). load s ≤ mostLoad) (sym (settled-same day (w .balanced .kept))) (w .load-most)
 
 -- What an account keeps as it is when the dial is set.
 record Carried (a : Account) : Type 0 where

@@ -1,11 +1,11 @@
 -- What stands on the account is what the book says stands, within its bounds: on a day, and through what calls do to it. Assumes nothing.
-use Rattle.common.proofs.Words.{_≡_, ap, sym, subst, _∙_, _⊎_, List, [], ℕ, _+_, _*_, _≤_, arith, ℤ, length}
+use Rattle.common.proofs.Words.{_≡_, ap, sym, subst, _∙_, _⊎_, List, [], ℕ, _+_, _≤_, arith, ℤ, length}
 use Rattle.lists.proofs.Every.{every-map}
-use Rattle.ledger.specs.Limits.{lastCallDay, capacity, mostPrice, mostArisen}
+use Rattle.ledger.specs.Limits.{lastCallDay, capacity, mostPrice}
 use Rattle.ledger.specs.Posting.{Standing, standing, stored, paid, closed, heldPosted, chargeOf}
 use Rattle.ledger.proofs.{Bounds.standing-stored, Settling.left-or-none, Within.Passes}
 use Rattle.account.specs.declared.Account.{Account}
-use Rattle.account.proofs.Sound.{item-later, load, Bounded, held-most, paid-bounded, closed-bounded, posted-sound, stored-facts}
+use Rattle.account.proofs.Sound.{item-later, load, mostLoad, Bounded, held-most, paid-bounded, closed-bounded, posted-sound, stored-facts}
 use Rattle.account.proofs.Facts.{ItemFacts, LedgerFacts, Facts}
 use Rattle.audit.specs.Book.{Book, Money, Period, prices, netAdded, aboveZero, belowZero, paidIn, settled, received, interestEntered}
 use Rattle.audit.specs.Book.{cancelled}
@@ -40,12 +40,12 @@ stands {a} {b} {day} w facts h =
                   items = every-map (ItemFacts (a .latest)) (ItemFacts day) (item-later (a .latest) day h) items (facts .ledger .items);
                   settled = subst (λ (y : Standing). (y .credit ≡ 0) ⊎ (y .open-items ≡ [])) (sym is) left;
                 };
-            load-most = subst (λ (y : Standing). load y ≤ 74 * mostArisen) (sym is) (w .load-most);
+            load-most = subst (λ (y : Standing). load y ≤ mostLoad) (sym is) (w .load-most);
           };
     }
 
 module _ {day : ℕ} {x : Standing} {m : Money} {priced : ℕ} (s : Stands day x m priced) where
-  pub stands-load : load (onLedger m) ≤ 74 * mostArisen
+  pub stands-load : load (onLedger m) ≤ mostLoad
   stands-load = rw (s .is) at (s .bounded .load-most)
 
   -- It is stored.

@@ -5,6 +5,11 @@ ghost use Rattle.calendar.specs.Gregorian.{leapYear, yearLength, monthLe
 ghost use Rattle.common.specs.Range.{within};
 ghost use Rattle.calendar.specs.Conversions.{lastNumber, isDate, toDate, fromDate, InCentury, IsMonth};
 
+mod limits;
+
+use crate::limits::FIRST_NUMBER;
+use crate::limits::LAST_NUMBER;
+
 pub struct Date {
     pub year: u32,
     pub month: u32,
@@ -32,9 +37,13 @@ const DAYS_BEFORE: [u32; 13] = [0, 31, 59, 90, 120, 151, 181, 212, 243, 273, 304
 
 impl Day {
     // 1 January 2000.
-    pub const FIRST: Day = Day { number: 0 };
+    pub const FIRST: Day = Day {
+        number: FIRST_NUMBER,
+    };
     // 31 December 2099.
-    pub const LAST: Day = Day { number: 36_524 };
+    pub const LAST: Day = Day {
+        number: LAST_NUMBER,
+    };
 
     // The date of a day number.
     pub fn to_date(number: u32) -> FoundDate

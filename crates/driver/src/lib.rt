@@ -4,6 +4,7 @@ ghost use mathlib.Core.Bool.{true};
 ghost use mathlib.Core.List.{_++_};
 ghost use Rattle.text.specs.Pieces.{Follows, AtEnd, Behind, Finished};
 ghost use Rattle.feeding.specs.Reached.{Ready};
+use answers::LONGEST_ANSWER;
 use libc::STDIN_FILENO;
 use libc::STDOUT_FILENO;
 use lines::State;
@@ -54,7 +55,7 @@ fn end_input(state: State, is_printing: bool) -> Run
     requires { ⌜ Behind state ⌝ }
     ensures { λ r. ⌜ ((b : Behind state) → AtEnd (b .seen) (r .state)) ⌝ }
 {
-    let mut out = [0u8; 117];
+    let mut out = [0u8; LONGEST_ANSWER];
     let fed = feeding::finish(state, &mut out);
     let written = fed.written;
     let sound = print(&out[..written], is_printing);

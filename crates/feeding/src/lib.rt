@@ -22,6 +22,7 @@ use ledger::Queue;
 use ledger::limits::CAPACITY;
 use ledger::limits::LANE_PLACES;
 use lines::Fed;
+use lines::KEPT_MOST;
 use lines::State;
 use meter::Estimates;
 use meter::Meter;
@@ -73,7 +74,7 @@ pub fn feed(state: State, input: &[u8], out: &mut [u8]) -> Fed
 }
 
 // What a piece leaves.
-fn handed_back(went: Went, items: [Item; CAPACITY], line: [u8; 31]) -> Fed
+fn handed_back(went: Went, items: [Item; CAPACITY], line: [u8; KEPT_MOST]) -> Fed
     ensures { λ r. ⌜ r ≡ handedBack went items line ⌝ }
 {
     let head = went.head;

@@ -5,7 +5,7 @@ use Rattle.lists.specs.Every.{every, Every}
 use Rattle.common.proofs.Cases.{by-test}
 use Rattle.lists.proofs.Every.{every-true, every-map}
 use Rattle.frames.specs.Digits.{isDigit, valueOf, valueOr, glyph}
-use Rattle.frames.specs.Layout.{Row, layout, sizeOf, widthsOf, framed}
+use Rattle.frames.specs.Layout.{Row, layout, longestFrame, sizeOf, widthsOf, framed}
 use Rattle.frames.specs.{declared.Parsed.the-variants.NotAFrame, Frames.kindOf, Frames.frameOf, Frames.parsed}
 use Rattle.frames.proofs.Digits.{value-digit, char-of, digits-part}
 
@@ -49,11 +49,11 @@ none-fits line test all unfit =
     let each = every-true test layout all in
     no-frame line (λ e. framed-none layout size kind line (every-map (λ r. test r ≡ true) (Unfit size kind) (unfit e) layout each))
 
--- The frames have 6 to 30 characters.
-pub too-long : (line : List ℕ) → 30 < length line → parsed line ≡ NotAFrame
+-- The frames have 6 characters to the longest.
+pub too-long : (line : List ℕ) → longestFrame < length line → parsed line ≡ NotAFrame
 too-long line h =
-    none-fits line (λ r. leb (sizeOf (r .widths)) 30) refl
-    (λ e r t. other-size (length line) (kindOf line) r (λ s. omega (arith, leb-true (sizeOf (r .widths)) 30 t)))
+    none-fits line (λ r. leb (sizeOf (r .widths)) longestFrame) refl
+    (λ e r t. other-size (length line) (kindOf line) r (λ s. omega (arith, leb-true (sizeOf (r .widths)) longestFrame t)))
 
 pub too-short : (line : List ℕ) → length line < 6 → parsed line ≡ NotAFrame
 too-short line h =

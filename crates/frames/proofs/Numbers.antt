@@ -9,7 +9,7 @@ use Rattle.frames.specs.Digits.{isDigit, valueOf, noDigit, valueOr, glyp
 use Rattle.frames.specs.Numbers.{widths, noWidths, shapeOf, widthsBy, callBy, callOf, fieldsOf, noFields, parsedBy, Small, SmallIn}
 use Rattle.frames.specs.Numbers.{SoundIn, Checked, ReadIn, ReadAt, Begins, Any2, Any3}
 use Rattle.frames.specs.{declared.Parsed.the-variants.Frame, declared.Parsed.the-variants.NotAFrame, declared.Fields.Fields}
-use Rattle.frames.specs.{declared.Widths.Widths, Layout.Row, Layout.layout, Layout.framed, Frames.kindOf, Frames.parsed}
+use Rattle.frames.specs.{declared.Widths.Widths, Layout.Row, Layout.layout, Layout.longestFrame, Layout.framed, Frames.kindOf, Frames.parsed}
 use Rattle.frames.proofs.Digits.{value-digit, digits-part, read-digits, digits-read, read-below}
 use Rattle.frames.proofs.Frames.{frame-at, parsed-digits, no-frame, begins-with, digits-begin, kind-is, KindOf, kind-or-not}
 use Rattle.frames.proofs.Frames.{unknown-widths, unknown-kind}
@@ -64,7 +64,7 @@ calledIn char w line =
 abbrev tests : Widths → List Bool
 tests w =
     eqb (w .size) (shortAt w + w .short)
-    ∷ leb (w .size) 30
+    ∷ leb (w .size) longestFrame
     ∷ leb (w .first) 8
     ∷ leb (w .second) 8
     ∷ leb (w .third) 8
@@ -73,7 +73,7 @@ tests w =
 
 pub record Bounds (w : Widths) : Type 0 where
   pub size-is : w .size ≡ shortAt w + w .short
-  pub size-most : w .size ≤ 30
+  pub size-most : w .size ≤ longestFrame
   pub first-most : w .first ≤ 8
   pub second-most : w .second ≤ 8
   pub third-most : w .third ≤ 8
@@ -112,7 +112,7 @@ bounds-in {w = w} f =
     let t = every-true (λ t. t) (tests w) (known f .small) in
     record {
       size-is = eqb-true (w .size) (shortAt w + w .short) (t .0);
-      size-most = leb-true (w .size) 30 (t .1 .0);
+      size-most = leb-true (w .size) longestFrame (t .1 .0);
       first-most = leb-true (w .first) 8 (t .1 .1 .0);
       second-most = leb-true (w .second) 8 (t .1 .1 .1 .0);
       third-most = leb-true (w .third) 8 (t .1 .1 .1 .1 .0);

@@ -45,6 +45,10 @@ layout =
 abbrev pub sizeOf : List ℕ → ℕ
 sizeOf ws = 2 * (1 + sum ws)
 
+-- The longest frame is a reading's.
+abbrev pub longestFrame : ℕ
+longestFrame = 30
+
 -- The widths of the row of a kind; none where no row has it.
 abbrev pub widthsOf : List Row → ℕ → List ℕ
 widthsOf [] kind = []

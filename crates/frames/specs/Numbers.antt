@@ -8,7 +8,7 @@ use Rattle.intake.specs.declared.Call.the-variants.{Payment, StoppedCancellatio
 use Rattle.intake.specs.declared.Call.{Call}
 use Rattle.frames.specs.{declared.Parsed.Parsed, declared.Parsed.the-variants.Frame, declared.Parsed.the-variants.NotAFrame}
 use Rattle.frames.specs.{declared.Fields.Fields, declared.Widths.Widths, Digits.noDigit, Digits.valueOr, Digits.lineFeed}
-use Rattle.frames.specs.{Layout.fuel, Layout.layout, Layout.widthsOf, Frames.parsed}
+use Rattle.frames.specs.{Layout.fuel, Layout.layout, Layout.longestFrame, Layout.widthsOf, Frames.parsed}
 
 -- The characters of each field behind the day: up to three of four bytes, then perhaps one of a single byte.
 abbrev pub widths : ℕ → ℕ → ℕ → ℕ → Widths
@@ -106,7 +106,7 @@ pub record ReadAt (input : List ℕ) (at : ℕ) (r : Fields) : Type 0 where
 
 -- Room for the longest frame and its LF, and the two characters of a kind.
 pub record Begins (input : List ℕ) (at char : ℕ) : Type 0 where
-  pub room : at + 31 ≤ length input
+  pub room : at + longestFrame + 1 ≤ length input
   pub zero : getD input at 0 ≡ 48
   pub second : getD input (at + 1) 0 ≡ char
 

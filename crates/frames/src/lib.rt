@@ -33,6 +33,9 @@ pub struct Widths {
     pub short: usize,
 }
 
+// The characters of the longest frame.
+const LONGEST_FRAME: usize = 30;
+
 // No number of eight digits comes to it.
 const NO_DIGIT: u64 = 4_294_967_296;
 
@@ -138,7 +141,7 @@ pub fn fields_at(input: &[u8], table: &[u64; 256], at: usize) -> Fields
     requires { ⌜ ValueTable (now table) ⌝ }
     ensures { λ r. ⌜ ((r .width ≡ 0 → ⊥) → ReadAt (now (input .entry)) at r) ⌝ }
 {
-    if input.len() - at < 31 {
+    if input.len() - at <= LONGEST_FRAME {
         return no_frame();
     }
     if input[at] != 48 {

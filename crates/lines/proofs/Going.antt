@@ -10,7 +10,7 @@ use Rattle.intake.specs.declared.Call.{Call}
 use Rattle.frames.specs.Numbers.{Lies, parsedBy, SmallIn, ReadAt, ReadIn}
 use Rattle.frames.specs.{declared.Fields.Fields, declared.Parsed.Parsed}
 use Rattle.frames.specs.declared.Parsed.the-variants.{Frame, NotAFrame}
-use Rattle.frames.specs.{Digits.isDigit, Digits.lineFeed, Digits.written, Frames.parsed}
+use Rattle.frames.specs.{Digits.isDigit, Digits.lineFeed, Digits.written, Layout.longestFrame, Frames.parsed}
 use Rattle.frames.proofs.{Frames.too-long, Frames.parsed-others, Numbers.parsed-frame}
 use Rattle.answers.specs.Answers.{answerLine, longestAnswer}
 use Rattle.lines.specs.Feeding.{keptMost, blankLine, between, lineOf, kept, Feeding, nothing, behind, feeding}
@@ -109,7 +109,7 @@ digit-no-end : (c : ℕ) → isDigit c ≡ true → c ≡ lineFeed → ⊥
 unfolding isDigit
 digit-no-end c e l = true≢false (sym (rw l at e))
 
--- What is read as a call has digits only, and at most 30 of them.
+-- What is read as a call has digits only, and at most as many as the longest frame.
 module _ (line : List ℕ) (call : Call) (e : parsed line ≡ Frame call) where
   frame-only : (b : Bool) → (b ≡ false → parsed line ≡ NotAFrame) → b ≡ true
   frame-only true none = refl
@@ -118,8 +118,8 @@ module _ (line : List ℕ) (call : Call) (e : parsed line ≡ Frame call) where
   frame-digits : every isDigit line ≡ true
   frame-digits = frame-only (every isDigit line) (parsed-others line)
 
-  frame-short : length line ≤ 30
-  frame-short = leb-true (length line) 30 (frame-only (leb (length line) 30) (λ f. too-long line (leb-false (length line) 30 f)))
+  frame-short : length line ≤ longestFrame
+  frame-short = leb-true (length line) longestFrame (frame-only (leb (length line) longestFrame) (λ f. too-long line (leb-false (length line) longestFrame f)))
 
 -- The front of a frame that lies in an input, kept.
 record Front (input : List ℕ) (at k : ℕ) : Type 0 where

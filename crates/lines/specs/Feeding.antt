@@ -9,7 +9,7 @@ use Rattle.frames.specs.Digits.{lineFeed}
 use Rattle.answers.specs.Answers.{answerLine, longestAnswer}
 use Rattle.lines.specs.{declared.State.State, declared.Fed.Fed, Line.lineOutcome}
 
--- The longest frame is 30 characters; of a longer line the first 31 are kept, enough to know that it is none.
+-- One character more than the longest frame is kept of a line, enough to know that it is none.
 abbrev pub keptMost : ℕ
 keptMost = 31
 

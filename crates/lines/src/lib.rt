@@ -6,13 +6,17 @@ ghost use lib.ListN.{length};
 ghost use Rattle.lines.specs.Feeding.{keptMost, blankLine, fresh};
 ghost use Rattle.lines.specs.Going.{Seeking, Keeps, Found, waitingAt};
 use account::Account;
+use answers::LONGEST_ANSWER;
 use frames::Fields;
 
-// What is kept between pieces: the account, and the first 31 characters of a line that has begun.
+// The characters kept of a line: one more than the longest frame has.
+pub const KEPT_MOST: usize = 31;
+
+// What is kept between pieces: the account, and the first characters of a line that has begun.
 pub struct State {
     pub account: Account,
     pub length: usize,
-    pub line: [u8; 31],
+    pub line: [u8; KEPT_MOST],
 }
 
 // The state behind a piece, the bytes of the piece that were taken and the bytes written.
@@ -29,7 +33,7 @@ impl State {
         State {
             account: Account::new(),
             length: 0,
-            line: [0; 31],
+            line: [0; KEPT_MOST],
         }
     }
 }
@@ -56,7 +60,7 @@ pub fn next_line(
     ensures { λ r. ⌜ Found (now (input .entry)) from room begun (now (line .entry)) (now (line .exit)) r ⌝ }
 {
     if begun == 0 {
-        if room >= 117 {
+        if room >= LONGEST_ANSWER {
             let fields = frames::fields_at(input, values, from);
             let width = fields.width;
             if width != 0 {
@@ -90,7 +94,7 @@ fn kept_line(
     if taken == input.len() {
         return waiting(taken, length);
     }
-    if room < 117 {
+    if room < LONGEST_ANSWER {
         return waiting(taken, length);
     }
     let end = shown_length(length);
@@ -121,7 +125,7 @@ pub struct Kept {
     pub length: usize,
 }
 
-// Keeps the first 31 characters of a line, up to its end.
+// Keeps the first characters of a line, up to its end.
 fn keep_characters(input: &[u8], from: usize, line: &mut [u8], begun: usize) -> Kept
     requires { ⌜ from ≤ length (now input) ⌝ }
     requires { ⌜ length (now line) ≡ keptMost ⌝ }
@@ -135,7 +139,7 @@ fn keep_characters(input: &[u8], from: usize, line: &mut [u8], begun: usize) -> 
             break;
         }
         taken += 1;
-        if length < 31 {
+        if length < KEPT_MOST {
             line[length] = character;
             length += 1;
         }
@@ -159,5 +163,5 @@ fn clear(line: &mut [u8])
 fn shown_length(count: usize) -> usize
     ensures { λ r. ⌜ r ≡ min count keptMost ⌝ }
 {
-    if count < 31 { count } else { 31 }
+    if count < KEPT_MOST { count } else { KEPT_MOST }
 }

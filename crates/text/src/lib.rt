@@ -12,7 +12,10 @@ ghost use Rattle.text.specs.Output.{accountAfter, noticesOf, openNotices
 ghost use Rattle.text.specs.Lines.{endsIn, linesOf};
 ghost use Rattle.text.specs.Pieces.{Sums};
 use account::Account;
+use answers::LONGEST_ANSWER;
+use answers::NOTICE_LENGTH;
 use ledger::Ledger;
+use ledger::limits::CAPACITY;
 use lines::State;
 
 // What a whole input leaves: the account, and the size of what `bill` writes for it.
@@ -20,9 +23,6 @@ pub struct Billed {
     pub account: Account,
     pub size: usize,
 }
-
-// A notice and its LF.
-const NOTICE_LENGTH: usize = 35;
 
 // No file is longer.
 const LONGEST_INPUT: usize = 281_474_976_710_656;
@@ -37,7 +37,7 @@ pub fn write_bill(input: &[u8], out: &mut [u8]) -> usize
     if input.len() > LONGEST_INPUT {
         return 18_446_744_073_709_551_615;
     }
-    if 117 * (count_ends(input) + 1) <= out.len() {
+    if LONGEST_ANSWER * (count_ends(input) + 1) <= out.len() {
         return write_at_once(input, out);
     }
     let measured = work_input(input, out, false);
@@ -99,7 +99,7 @@ fn write_at_once(input: &[u8], out: &mut [u8]) -> usize
     let fed = feeding::feed(State::new(), input, out);
     let filled = fed.written;
     let state = fed.state;
-    let mut space = [0u8; 117];
+    let mut space = [0u8; LONGEST_ANSWER];
     let last = feeding::finish(state, &mut space);
     let more = last.written;
     put_part(&space[..more], out, filled, true);
@@ -198,5 +198,5 @@ fn put_items(ledger: Ledger, out: &mut [u8])
 fn shown_items(count: usize) -> usize
     ensures { λ r. ⌜ r ≡ min count capacity ⌝ }
 {
-    if count < 72 { count } else { 72 }
+    if count < CAPACITY { count } else { CAPACITY }
 }
