@@ -9,7 +9,8 @@ use Rattle.frames.specs.Digits.{isDigit, valueOf, noDigit, valueOr, glyp
 use Rattle.frames.specs.Numbers.{widths, noWidths, shapeOf, widthsBy, callBy, callOf, fieldsOf, noFields, parsedBy, Small, SmallIn}
 use Rattle.frames.specs.Numbers.{SoundIn, Checked, ReadIn, ReadAt, Begins, Any2, Any3}
 use Rattle.frames.specs.{declared.Parsed.the-variants.Frame, declared.Parsed.the-variants.NotAFrame, declared.Fields.Fields}
-use Rattle.frames.specs.{declared.Widths.Widths, Layout.Row, Layout.layout, Layout.longestFrame, Layout.framed, Frames.kindOf, Frames.parsed}
+use Rattle.frames.specs.{declared.Widths.Widths, Layout.Row, Layout.layout, Layout.longestFrame, Layout.framed}
+use Rattle.frames.specs.Frames.{kindOf, parsed}
 use Rattle.frames.proofs.Digits.{value-digit, digits-part, read-digits, digits-read, read-below}
 use Rattle.frames.proofs.Frames.{frame-at, parsed-digits, no-frame, begins-with, digits-begin, kind-is, KindOf, kind-or-not}
 use Rattle.frames.proofs.Frames.{unknown-widths, unknown-kind}

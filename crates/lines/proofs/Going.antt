@@ -119,7 +119,9 @@ module _ (line : List ℕ) (call : Call) (e : parsed line ≡ Frame call) where
   frame-digits = frame-only (every isDigit line) (parsed-others line)
 
   frame-short : length line ≤ longestFrame
-  frame-short = leb-true (length line) longestFrame (frame-only (leb (length line) longestFrame) (λ f. too-long line (leb-false (length line) longestFrame f)))
+  frame-short =
+      leb-true (length line) longestFrame
+      (frame-only (leb (length line) longestFrame) (λ f. too-long line (leb-false (length line) longestFrame f)))
 
 -- The front of a frame that lies in an input, kept.
 record Front (input : List ℕ) (at k : ℕ) : Type 0 where
