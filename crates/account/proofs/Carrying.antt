@@ -1,5 +1,6 @@
 -- What a call comes to by its plan, on an account whose items lie in lanes. Assumes nothing.
 use Rattle.common.proofs.Words.{_≡_, sym, ap, _∙_, true, false, List, ℕ, _≤_, arith, length, take, le-leb, ne-eqb}
+use Rattle.duedays.specs.DueDays.{listAllowed}
 use Rattle.meter.specs.declared.Estimates.{Estimates}
 use Rattle.ledger.specs.Entries.{asked, numberOf, interestPosted, Within}
 use Rattle.ledger.specs.{declared.Entry.Entry, declared.Item.Item, declared.Ledger.Ledger, declared.Queue.Queue}
@@ -20,11 +21,11 @@ pub last-none : (ledger : Ledger) → ledger .count ≤ capacity → ledger .cre
 last-none ledger few credit = rw (le-leb _ _ few, le-leb _ _ credit)
 
 -- An entry that is not refused leaves a place for every item.
-pub places-few : (e : Entry) (s : Standing) → numberOf (asked e s) ≡ 0 → length (asked e s .open-items) ≤ capacity
-places-few e s z = number-passes (length (asked e s .open-items)) (asked e s .credit) z .count-most
+pub places-few : (holidays : List ℕ) (e : Entry) (s : Standing) → numberOf (asked holidays e s) ≡ 0 → length (asked holidays e s .open-items) ≤ capacity
+places-few holidays e s z = number-passes (length (asked holidays e s .open-items)) (asked holidays e s .credit) z .count-most
 
 -- A call on the account that lies there.
-module _ (h : Head) (estimates : Estimates) (s : Standing) (call : Call) where
+module _ (holidays : List ℕ) (h : Head) (estimates : Estimates) (s : Standing) (call : Call) where
   abbrev a : Account
   a = accountOf h estimates (stored s)
 
@@ -48,7 +49,7 @@ module _ (h : Head) (estimates : Estimates) (s : Standing) (call : Call) where
 
     -- It comes to the call's outcome where the items lie, and what is unpaid of them.
     pub record Goes (after : List Item) (q : Queue) (interest : ℕ) (volumes : List ℕ) : Type 0 where
-      pub account-is : accountOf (p .head) (changed (p .change) estimates) (stored (lying after q)) ≡ outcome a call .account
+      pub account-is : accountOf (p .head) (changed (p .change) estimates) (stored (lying after q)) ≡ outcome holidays a call .account
       pub answer-is :
           record {
             number = 0;
@@ -58,14 +59,14 @@ module _ (h : Head) (estimates : Estimates) (s : Standing) (call : Call) where
             interest = interest;
             unpaid = q .owed;
             credit = q .credit;
-          } ≡ outcome a call .answer
+          } ≡ outcome holidays a call .answer
       pub counted : changed (p .change) estimates .count ≡ p .head .standing
 
     pub goes : (volumes : List ℕ) → take (p .count) volumes ≡ final → (after : List Item) (q : Queue) (x : Standing) (interest : ℕ)
-        → outcome a call ≡ accepted (made x interest) → lying after q ≡ x → Lies after q → q .count ≤ capacity
+        → outcome holidays a call ≡ accepted (made x interest) → lying after q ≡ x → Lies after q → q .count ≤ capacity
         → Goes after q interest volumes
     goes volumes shown after q x interest e same lies most =
-        let said : outcome a call ≡ accepted (made (lying after q) interest) = e ∙ ap (λ y. accepted (made y interest)) (sym same) in
+        let said : outcome holidays a call ≡ accepted (made (lying after q) interest) = e ∙ ap (λ y. accepted (made y interest)) (sym same) in
         let few : length (lying after q .open-items) ≤ capacity = omega (arith, part-count lies) in
         let owed = lies .owed-is ∙ sym (ap (λ (y : Standing). unpaidOf (y .open-items)) (standing-stored (lying after q) few)) in
         record {
@@ -74,27 +75,27 @@ module _ (h : Head) (estimates : Estimates) (s : Standing) (call : Call) where
           counted = counted h estimates (fit .count-is) (omega arith) call;
         }
 
-    module _ (w : whole a ≡ true) (within : Within s) where
+    module _ (listed : listAllowed holidays ≡ true) (w : whole a ≡ true) (within : Within s) where
       -- the head of the account that lies there
       head-is : headOf a ≡ h
       head-is = head-counted h estimates (stored s) (fit .count-is)
 
-      concludes : outcome a call ≡ concluded a (workOf p final estimates (stored s))
+      concludes : outcome holidays a call ≡ concluded a (workOf holidays p final estimates (stored s))
       concludes =
-          outcome-concluded a call w (rw head-is first) ∙ ap (concluded a) (rw head-is at (sym (plan-works a call)))
+          outcome-concluded holidays a call listed w (rw head-is first) ∙ ap (concluded a) (rw head-is at (sym (plan-works holidays a call)))
 
-      pub outcome-quiet : p .asks ≡ false → outcome a call ≡ accepted (made s 0)
+      pub outcome-quiet : p .asks ≡ false → outcome holidays a call ≡ accepted (made s 0)
       outcome-quiet f = rw (concludes, f, last-none (stored s) (within .count-most) (within .credit-most))
 
       asked-work : p .asks ≡ true
-          → outcome a call ≡ concluded a (made (asked (p .entry) s) (interestPosted (p .entry) s))
+          → outcome holidays a call ≡ concluded a (made (asked holidays (p .entry) s) (interestPosted holidays (p .entry) s))
       asked-work f =
           let back = standing-stored s (within .count-most) in
-          rw (concludes, f) (λ i. concluded a (made (asked (p .entry) (back i)) (interestPosted (p .entry) (back i))))
+          rw (concludes, f) (λ i. concluded a (made (asked holidays (p .entry) (back i)) (interestPosted holidays (p .entry) (back i))))
 
-      pub outcome-asked : p .asks ≡ true → numberOf (asked (p .entry) s) ≡ 0
-          → outcome a call ≡ accepted (made (asked (p .entry) s) (interestPosted (p .entry) s))
+      pub outcome-asked : p .asks ≡ true → numberOf (asked holidays (p .entry) s) ≡ 0
+          → outcome holidays a call ≡ accepted (made (asked holidays (p .entry) s) (interestPosted holidays (p .entry) s))
       outcome-asked f z = rw (asked-work f, z)
 
-      pub outcome-refused : p .asks ≡ true → (n : ℕ) → n ≡ numberOf (asked (p .entry) s) → (n ≡ 0 → ⊥) → outcome a call ≡ declined a n
+      pub outcome-refused : p .asks ≡ true → (n : ℕ) → n ≡ numberOf (asked holidays (p .entry) s) → (n ≡ 0 → ⊥) → outcome holidays a call ≡ declined a n
       outcome-refused f n e some = rw (asked-work f, ← e, ne-eqb n 0 some)

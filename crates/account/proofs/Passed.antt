@@ -1,5 +1,6 @@
 -- What an accepted call has passed. Assumes nothing.
-use Rattle.common.proofs.Words.{_≡_, refl, Bool, true, false, ℕ, _≤_, arith, ltb, leb-true, ltb-true, ltb-false}
+use Rattle.common.proofs.Words.{_≡_, refl, Bool, true, false, List, ℕ, _≤_, arith, ltb, leb-true, ltb-true, ltb-false}
+use Rattle.duedays.specs.DueDays.{listAllowed}
 use Rattle.ledger.specs.Limits.{capacity, mostCredit}
 use Rattle.intake.specs.{declared.Call.Call, Refusals.firstRefusal}
 use Rattle.intake.proofs.Passed.{passes}
@@ -13,20 +14,23 @@ or-else number others e = go (ltb 0 number) refl
     go true t = let z : number ≡ 0 = rw t at e in let never : ⊥ = omega (arith, ltb-true 0 number t) in absurd never
     go false t = (omega (arith, ltb-false 0 number t), rw t at e)
 
--- 41 and 12 and 13, of any call.
-pub record Accepted (a : Account) (call : Call) : Type 0 where
+-- 14, 41 and 12 and 13, of any call.
+pub record Accepted (holidays : List ℕ) (a : Account) (call : Call) : Type 0 where
+  pub listed : listAllowed holidays ≡ true
   pub is-whole : whole a ≡ true
   pub first-passed : firstRefusal (headOf a) call ≡ 0
-  pub items-most : work a call .account .ledger .count ≤ capacity
-  pub credit-most : work a call .account .ledger .credit ≤ mostCredit
+  pub items-most : work holidays a call .account .ledger .count ≤ capacity
+  pub credit-most : work holidays a call .account .ledger .credit ≤ mostCredit
 
-pub accepted : (a : Account) (call : Call) → refusal a call ≡ 0 → Accepted a call
+pub accepted : (holidays : List ℕ) (a : Account) (call : Call) → refusal holidays a call ≡ 0 → Accepted holidays a call
 unfolding refusal
-accepted a call e =
-    let one = passes _ e in
-    let both = or-else (firstRefusal (headOf a) call) (lastRefusal (work a call .account .ledger)) (one .1) in
+accepted holidays a call e =
+    let fourteen = passes _ e in
+    let one = passes _ (fourteen .1) in
+    let both = or-else (firstRefusal (headOf a) call) (lastRefusal (work holidays a call .account .ledger)) (one .1) in
     let twelve = passes _ (both .1) in
     record {
+      listed = fourteen .0;
       is-whole = one .0;
       first-passed = both .0;
       items-most = leb-true _ _ (twelve .0);

@@ -3,6 +3,8 @@ use Rattle.common.proofs.Words.{_≡_, ap, sym, subst, _⊎_, inl, inr, ⊎-eli
 use Rattle.common.proofs.Words.{le-trans, eq-zero-or-pos, arith, ℤ, length, length-append}
 use Rattle.lists.specs.Every.{Every}
 use Rattle.lists.proofs.Every.{every-append, every-map}
+use Rattle.duedays.specs.DueDays.{listAllowed}
+use Rattle.duedays.proofs.DueDays.{due-most}
 use Rattle.ledger.specs.Limits.{lastCallDay, capacity, mostPrice, mostInterest, mostArisen, mostCredit}
 use Rattle.ledger.specs.Posting.{Standing, newItem, entered, post, noneHeld, closed, paid, heldPosted, chargeOf, creditOf, standing, stored}
 use Rattle.ledger.specs.{declared.Kind.Kind, declared.Kind.the-variants.Interest, declared.Kind.the-variants.Price, declared.Item.Item}
@@ -18,16 +20,16 @@ item-reduced : (day : ℕ) (item : Item) (money : ℕ) → ItemFacts day item �
 item-reduced day item money w h = search arith
 
 -- What is posted on a day that calls take.
-entered-facts : (kind : Kind) (day amount : ℕ) → day ≤ lastCallDay → (isPrice kind ≡ true → amount ≤ mostPrice) → amount ≤ mostInterest
-    → Every (ItemFacts day) (entered kind day amount)
-entered-facts kind day amount h price most =
+entered-facts : (holidays : List ℕ) (kind : Kind) (day amount : ℕ) → listAllowed holidays ≡ true → day ≤ lastCallDay → (isPrice kind ≡ true → amount ≤ mostPrice) → amount ≤ mostInterest
+    → Every (ItemFacts day) (entered holidays kind day amount)
+entered-facts holidays kind day amount listed h price most =
     ⊎-elim
-    (λ (none : amount ≡ 0). rw (entered-none kind day amount none) tt)
-    (λ (some : 0 < amount). rw (entered-some kind day amount some) (fresh some, tt))
+    (λ (none : amount ≡ 0). rw (entered-none holidays kind day amount none) tt)
+    (λ (some : 0 < amount). rw (entered-some holidays kind day amount some) (fresh some, tt))
     (eq-zero-or-pos amount)
   where
-    fresh : 0 < amount → ItemFacts day (newItem kind day amount)
-    fresh some = search arith
+    fresh : 0 < amount → ItemFacts day (newItem holidays kind day amount)
+    fresh some = let due = due-most holidays day listed h in search arith
 
 -- Whole items, and credit only where none is open.
 pub record Sound (day : ℕ) (s : Standing) : Type 0 where
@@ -75,24 +77,24 @@ unfolding paid
 paid-bounded day yen s h w = post-bounded day yen [] s (w .sound .items) tt h (omega (arith, w .load-most))
 
 -- Interest held is posted.
-module _ (day : ℕ) (s : Standing)
+module _ (holidays : List ℕ) (day : ℕ) (s : Standing) (listed : listAllowed holidays ≡ true)
     (h : day ≤ lastCallDay) (old : Every (ItemFacts day) (s .open-items)) (held : s .held ≤ mostInterest) where
   abbrev posted : List Item
-  posted = entered Interest day (s .held)
+  posted = entered holidays Interest day (s .held)
 
   held-facts : Every (ItemFacts day) posted
-  held-facts = entered-facts Interest day (s .held) h (λ e. absurd (false≢true e)) held
+  held-facts = entered-facts holidays Interest day (s .held) listed h (λ e. absurd (false≢true e)) held
 
-  pub closed-bounded : (net : ℤ) → chargeOf net ≤ mostPrice → length (s .open-items) ≤ capacity → Bounded day (closed day net s)
+  pub closed-bounded : (net : ℤ) → chargeOf net ≤ mostPrice → length (s .open-items) ≤ capacity → Bounded day (closed holidays day net s)
   unfolding closed
   closed-bounded net charge places =
-      let priced = entered Price day (chargeOf net) in
-      let price-facts = entered-facts Price day (chargeOf net) h (λ _. charge) (omega arith) in
+      let priced = entered holidays Price day (chargeOf net) in
+      let price-facts = entered-facts holidays Price day (chargeOf net) listed h (λ _. charge) (omega arith) in
       let new = every-append (ItemFacts day) posted priced held-facts price-facts in
       post-bounded day (creditOf net) (posted ++ priced) (noneHeld s) old new h
-      (omega (arith, length-append posted priced, entered-count Interest day (s .held), entered-count Price day (chargeOf net)))
+      (omega (arith, length-append posted priced, entered-count holidays Interest day (s .held), entered-count holidays Price day (chargeOf net)))
 
-  pub posted-sound : Sound day (heldPosted day s)
+  pub posted-sound : Sound day (heldPosted holidays day s)
   unfolding heldPosted
   posted-sound = post-sound day 0 posted (noneHeld s) old held-facts
 

@@ -19,21 +19,21 @@ pub head-counted : (h : Head) (estimates : Estimates) (ledger : Ledger) → esti
 head-counted h estimates ledger count-is = λ i. headOn h (h .status) (h .latest) (h .meter) (count-is i)
 
 -- 0a asks for a closing with no net.
-held-asked : (day : ℕ) (s : Standing) → asked (heldEntry day) s ≡ closed day (pos 0) s
+held-asked : (holidays : List ℕ) (day : ℕ) (s : Standing) → asked holidays (heldEntry day) s ≡ closed holidays day (pos 0) s
 unfolding asked taken closed
-held-asked day s = refl
+held-asked holidays day s = refl
 
-module _ (a : Account) where
+module _ (holidays : List ℕ) (a : Account) where
   abbrev workBy : Plan → List ℕ → Work
-  workBy p final = workOf p final (a .estimates) (a .ledger)
+  workBy p final = workOf holidays p final (a .estimates) (a .ledger)
 
-  stopped-works : (day : ℕ) → workBy (stoppedPlan (headOf a) day) [] ≡ stoppedCancellation a day
+  stopped-works : (day : ℕ) → workBy (stoppedPlan (headOf a) day) [] ≡ stoppedCancellation holidays a day
   stopped-works day =
       let s = standing (a .ledger) in
-      rw (held-asked day s, closed-with-none day s, add-zero (a .ledger .held))
+      rw (held-asked holidays day s, closed-with-none holidays day s, add-zero (a .ledger .held))
 
   pub plan-works : (call : Call)
-      → workBy (passedPlan (headOf a) (standingEstimates a) call) (passedVolumes (headOf a) (standingEstimates a) call) ≡ work a call
+      → workBy (passedPlan (headOf a) (standingEstimates a) call) (passedVolumes (headOf a) (standingEstimates a) call) ≡ work holidays a call
   unfolding work passedPlan passedVolumes asked taken closed
   plan-works (Opening _ _ _) = refl
   plan-works (Reading _ _ _) = rw (add-zero (a .ledger .held))

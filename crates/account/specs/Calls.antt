@@ -71,21 +71,23 @@ module _ (a : Account) (day reading : ℕ) (fuel : Fuel) where
   abbrev pub closingNet : ℤ
   closingNet = netOf (standingEstimates a) (poolTo (a .meter) reading) madeFinal closingPrice
 
-  abbrev pub closedLedger : Standing
-  closedLedger = closed day closingNet (standing (a .ledger))
-
   -- All volumes are final, so no estimate stands and the pool is 0.
   abbrev pub afterReading : Status → Ledger → Account
   afterReading status ledger = accountOn a day status (readAt (a .meter) reading (ofThisPeriod madeFinal)) (storedEstimates []) ledger
+
+-- and posts on the ledger, by the list of closed days.
+module _ (holidays : List ℕ) (a : Account) (day reading : ℕ) (fuel : Fuel) where
+  abbrev pub closedLedger : Standing
+  closedLedger = closed holidays day (closingNet a day reading fuel) (standing (a .ledger))
 
   -- A closing posts interest held.
   abbrev pub read : Status → Work
   read status =
       record {
-        account = afterReading status (stored closedLedger);
+        account = afterReading a day reading fuel status (stored closedLedger);
         estimated = 0;
-        volumes = madeFinal;
-        net = closingNet;
+        volumes = madeFinal a day reading fuel;
+        net = closingNet a day reading fuel;
         interest = a .ledger .held;
       }
 
@@ -93,10 +95,10 @@ module _ (a : Account) (day reading : ℕ) (fuel : Fuel) where
   abbrev pub cancelled : Work
   cancelled =
       record {
-        account = afterReading Cancelled (stored (heldPosted day closedLedger));
+        account = afterReading a day reading fuel Cancelled (stored (heldPosted holidays day closedLedger));
         estimated = 0;
-        volumes = madeFinal;
-        net = closingNet;
+        volumes = madeFinal a day reading fuel;
+        net = closingNet a day reading fuel;
         interest = a .ledger .held + closedLedger .held;
       }
 
@@ -112,18 +114,19 @@ module _ (a : Account) (day : ℕ) (fuel : Fuel) where
         charged = priceOf (daysOf (startOf (a .status)) day) fuel volume;
       }
 
-  abbrev pub missed : Bool → ℕ → Work
-  missed absent volume =
-      record {
-        account =
-            accountOn a day (Supplied (dayAfter day)) (missedAt (a .meter) volume)
-            (storedEstimates (standingEstimates a ++ (estimateOf absent volume ∷ [])))
-            (stored (closed day (pos (estimateOf absent volume .charged)) (standing (a .ledger))));
-        estimated = volume;
-        volumes = [];
-        net = pos (estimateOf absent volume .charged);
-        interest = a .ledger .held;
-      }
+abbrev pub missed : List ℕ → Account → ℕ → Fuel → Bool → ℕ → Work
+missed holidays a day fuel absent volume =
+    let estimate = estimateOf a day fuel absent volume in
+    record {
+      account =
+          accountOn a day (Supplied (dayAfter day)) (missedAt (a .meter) volume)
+          (storedEstimates (standingEstimates a ++ (estimate ∷ [])))
+          (stored (closed holidays day (pos (estimate .charged)) (standing (a .ledger))));
+      estimated = volume;
+      volumes = [];
+      net = pos (estimate .charged);
+      interest = a .ledger .held;
+    }
 
 -- 01 and 07 set the dial and begin a period.
 abbrev pub begun : Account → ℕ → ℕ → ℕ → ℕ → Work
@@ -134,41 +137,40 @@ abbrev pub exchanged : Account → ℕ → ℕ → ℕ → ℕ → Work
 exchanged a day old new digits = quiet (withMeter a day (a .status) (exchangedFor (a .meter) old new digits))
 
 -- A payment: what it brings in interest is held, and on a cancelled account posted at once as one last item.
-module _ (a : Account) (day yen : ℕ) where
-  abbrev pub paidLedger : Standing
-  paidLedger = paid day yen (standing (a .ledger))
+abbrev pub paidLedger : Account → ℕ → ℕ → Standing
+paidLedger a day yen = paid day yen (standing (a .ledger))
 
-  abbrev pub payment : Work
-  payment =
-      record {
-        account =
-            withLedger a day (a .status) (stored (cond (isCancelled (a .status)) (heldPosted day paidLedger) paidLedger));
-        estimated = 0;
-        volumes = [];
-        net = pos 0;
-        interest = cond (isCancelled (a .status)) (paidLedger .held) 0;
-      }
+abbrev pub payment : List ℕ → Account → ℕ → ℕ → Work
+payment holidays a day yen =
+    let ledger = paidLedger a day yen in
+    record {
+      account = withLedger a day (a .status) (stored (cond (isCancelled (a .status)) (heldPosted holidays day ledger) ledger));
+      estimated = 0;
+      volumes = [];
+      net = pos 0;
+      interest = cond (isCancelled (a .status)) (ledger .held) 0;
+    }
 
 -- A cancellation while stopped posts interest held only.
-abbrev pub stoppedCancellation : Account → ℕ → Work
-stoppedCancellation a day =
+abbrev pub stoppedCancellation : List ℕ → Account → ℕ → Work
+stoppedCancellation holidays a day =
     record {
-      account = withLedger a day Cancelled (stored (heldPosted day (standing (a .ledger))));
+      account = withLedger a day Cancelled (stored (heldPosted holidays day (standing (a .ledger))));
       estimated = 0;
       volumes = [];
       net = pos 0;
       interest = a .ledger .held;
     }
 
--- The work of each call.
-unfoldable pub work : Account → Call → Work
-work a (Opening day reading digits) = begun a day reading digits day
-work a (Reading day reading fuel) = read a day reading fuel (Supplied (dayAfter day))
-work a (Missed day fuel) = missed a day fuel false (a .meter .previous)
-work a (Absent day fuel) = missed a day fuel true 0
-work a (Exchange day old new digits) = exchanged a day old new digits
-work a (Disconnection day reading fuel) = read a day reading fuel (Stopped day)
-work a (Reconnection day reading digits) = begun a day reading digits (resumedStart (stopOf (a .status)) day)
-work a (Cancellation day reading fuel) = cancelled a day reading fuel
-work a (Payment day yen) = payment a day yen
-work a (StoppedCancellation day) = stoppedCancellation a day
+-- The work of each call, by a list of closed days.
+unfoldable pub work : List ℕ → Account → Call → Work
+work holidays a (Opening day reading digits) = begun a day reading digits day
+work holidays a (Reading day reading fuel) = read holidays a day reading fuel (Supplied (dayAfter day))
+work holidays a (Missed day fuel) = missed holidays a day fuel false (a .meter .previous)
+work holidays a (Absent day fuel) = missed holidays a day fuel true 0
+work holidays a (Exchange day old new digits) = exchanged a day old new digits
+work holidays a (Disconnection day reading fuel) = read holidays a day reading fuel (Stopped day)
+work holidays a (Reconnection day reading digits) = begun a day reading digits (resumedStart (stopOf (a .status)) day)
+work holidays a (Cancellation day reading fuel) = cancelled holidays a day reading fuel
+work holidays a (Payment day yen) = payment holidays a day yen
+work holidays a (StoppedCancellation day) = stoppedCancellation holidays a day

@@ -3,10 +3,7 @@ use mathlib.Core.Bool.{Bool}
 use Prim.Native.Nat.{ℕ}
 use lib.Dec.{leb}
 use Rattle.ledger.specs.Limits.{capacity, mostCredit}
-
--- Due days are at most 36,524.
-abbrev pub lastDueDay : ℕ
-lastDueDay = 36524
+pub use Rattle.duedays.specs.Limits.{lastDueDay}
 
 -- 12: at most 72 items are open.
 abbrev pub itemsAllowed : ℕ → Bool

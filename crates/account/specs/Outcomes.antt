@@ -38,10 +38,12 @@ declining number =
 abbrev pub declined : Account → ℕ → Outcome
 declined a number = record { account = a; answer = declining number }
 
-unfoldable pub outcome : Account → Call → Outcome
-outcome a call = cond (eqb (refusal a call) 0) (accepted (work a call)) (declined a (refusal a call))
+-- A call on an account, by a list of closed days.
+unfoldable pub outcome : List ℕ → Account → Call → Outcome
+outcome holidays a call =
+    cond (eqb (refusal holidays a call) 0) (accepted (work holidays a call)) (declined a (refusal holidays a call))
 
--- What a call comes to that 41 and 1 to 11 let pass: declined by 12 or 13, or accepted.
+-- What a call comes to that 14, 41 and 1 to 11 let pass: declined by 12 or 13, or accepted.
 abbrev pub concluded : Account → Work → Outcome
 concluded a w =
     cond (eqb (lastRefusal (w .account .ledger)) 0) (accepted w) (declined a (lastRefusal (w .account .ledger)))

@@ -1,7 +1,8 @@
--- When a call is declined: 41, then 1 to 13. 0 stands for none.
-use mathlib.Core.Bool.{cond}
+-- When a call is declined: 14, 41, then 1 to 13. 0 stands for none.
+use mathlib.Core.{Bool.cond, List.List}
 use Prim.Native.Nat.{ℕ}
 use lib.Dec.{ltb}
+use Rattle.duedays.specs.DueDays.{listAllowed}
 use Rattle.ledger.specs.declared.Ledger.{Ledger}
 use Rattle.intake.specs.{declared.Call.Call, Refusals.unless, Refusals.firstRefusal}
 use Rattle.account.specs.{declared.Account.Account, Limits.itemsAllowed, Limits.creditAllowed, Calls.headOf, Calls.work, Whole.whole}
@@ -14,6 +15,8 @@ lastRefusal ledger = unless (itemsAllowed (ledger .count)) 12 (unless (creditAll
 abbrev pub orElse : ℕ → ℕ → ℕ
 orElse number others = cond (ltb 0 number) number others
 
--- 41, then 1 to 13.
-unfoldable pub refusal : Account → Call → ℕ
-refusal a call = unless (whole a) 41 (orElse (firstRefusal (headOf a) call) (lastRefusal (work a call .account .ledger)))
+-- 14, a list of closed days that breaks its bounds; then 41, then 1 to 13.
+unfoldable pub refusal : List ℕ → Account → Call → ℕ
+refusal holidays a call =
+    unless (listAllowed holidays) 14
+    (unless (whole a) 41 (orElse (firstRefusal (headOf a) call) (lastRefusal (work holidays a call .account .ledger))))

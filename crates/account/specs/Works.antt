@@ -7,20 +7,20 @@ use Rattle.plan.specs.{declared.Plan.Plan, Plans.changed}
 use Rattle.account.specs.{declared.Answer.Answer, Calls.accountOf, Calls.Work}
 
 -- The work that a plan comes to.
-abbrev pub ledgerAfter : Plan → Ledger → Ledger
-ledgerAfter p ledger = cond (p .asks) (stored (asked (p .entry) (standing ledger))) ledger
+abbrev pub ledgerAfter : List ℕ → Plan → Ledger → Ledger
+ledgerAfter holidays p ledger = cond (p .asks) (stored (asked holidays (p .entry) (standing ledger))) ledger
 
-abbrev pub interestAfter : Plan → Ledger → ℕ
-interestAfter p ledger = cond (p .asks) (interestPosted (p .entry) (standing ledger)) 0
+abbrev pub interestAfter : List ℕ → Plan → Ledger → ℕ
+interestAfter holidays p ledger = cond (p .asks) (interestPosted holidays (p .entry) (standing ledger)) 0
 
-abbrev pub workOf : Plan → List ℕ → Estimates → Ledger → Work
-workOf p final estimates ledger =
+abbrev pub workOf : List ℕ → Plan → List ℕ → Estimates → Ledger → Work
+workOf holidays p final estimates ledger =
     record {
-      account = accountOf (p .head) (changed (p .change) estimates) (ledgerAfter p ledger);
+      account = accountOf (p .head) (changed (p .change) estimates) (ledgerAfter holidays p ledger);
       estimated = p .estimated;
       volumes = final;
       net = p .net;
-      interest = interestAfter p ledger;
+      interest = interestAfter holidays p ledger;
     }
 
 -- The answer of an accepted call, with the volumes that stand in an array.

@@ -1,10 +1,11 @@
-// A call on an account that is known to be whole: planned on its head, and entered in its ledger once.
+// A call on an account that is known to be whole, by a list that is known to be within its bounds: planned on its head, and entered in its ledger once.
 ghost use mathlib.Core.Path.{_≡_};
 ghost use mathlib.Core.Bool.{true};
 ghost use mathlib.Core.List.{List, [], _∷_, _++_};
 ghost use Prim.Native.Nat.{ℕ, _<_};
+ghost use Rattle.duedays.specs.DueDays.{listAllowed};
 ghost use Rattle.meter.specs.Sharing.{standing, volumesOf};
-ghost use Rattle.ledger.specs.Entries.{EntryBounds};
+ghost use Rattle.ledger.specs.Entries.{Enterable};
 ghost use Rattle.intake.specs.Limits.{mostMisses};
 ghost use Rattle.closing.specs.Closing.{storedEstimates};
 ghost use Rattle.plan.specs.Plans.{changed, Room};
@@ -36,9 +37,10 @@ const BLANK: Estimate = Estimate {
 };
 
 // Any call.
-pub fn answer(account: Account, call: Call) -> Outcome
+pub fn answer(account: Account, holidays: &[u16], call: Call) -> Outcome
     requires { ⌜ whole account ≡ true ⌝ }
-    ensures { λ r. ⌜ r ≡ outcome account call ⌝ }
+    requires { ⌜ listAllowed (now holidays) ≡ true ⌝ }
+    ensures { λ r. ⌜ r ≡ outcome (now (holidays .entry)) account call ⌝ }
 {
     let head = head_of(account);
     let estimates = account.estimates;
@@ -47,16 +49,16 @@ pub fn answer(account: Account, call: Call) -> Outcome
     if plan.number != 0 {
         return decline(account, plan.number);
     }
-    carry_out(account, plan, volumes)
+    carry_out(account, holidays, plan, volumes)
 }
 
 // What a plan comes to that 1 to 11 let pass: 12 and 13 look at the ledger after its entry.
-fn carry_out(account: Account, plan: Plan, volumes: [u32; 7]) -> Outcome
+fn carry_out(account: Account, holidays: &[u16], plan: Plan, volumes: [u32; 7]) -> Outcome
     requires { ⌜ whole account ≡ true ⌝ }
     requires { ⌜ Room (plan .change) (account .estimates .count) ⌝ }
-    requires { ⌜ EntryBounds (plan .entry) ⌝ }
+    requires { ⌜ Enterable (now holidays) (plan .entry) ⌝ }
     ensures { λ r. ⌜ ((final : List ℕ) → record { count = plan .count; volumes = volumes } ≡ volumesOf final
-        → r ≡ concluded account (workOf plan final (account .estimates) (account .ledger))) ⌝ }
+        → r ≡ concluded account (workOf (now (holidays .entry)) plan final (account .estimates) (account .ledger))) ⌝ }
 {
     let change = plan.change;
     let estimates = changed(change, account.estimates);
@@ -68,7 +70,7 @@ fn carry_out(account: Account, plan: Plan, volumes: [u32; 7]) -> Outcome
             answer: answer_of(plan, volumes, 0, ledger.unpaid(), ledger.credit),
         };
     }
-    let posted = lanes::enter_ledger(ledger, plan.entry);
+    let posted = lanes::enter_ledger(ledger, holidays, plan.entry);
     if posted.number != 0 {
         return decline(account, posted.number);
     }

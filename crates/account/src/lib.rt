@@ -1,4 +1,4 @@
-// A gas account: its status, what it holds, the calls made on it and their answers.
+// A gas account: its status, what it holds, the calls made on it and their answers. With each call comes the list of closed days, in names holidays.
 ghost use mathlib.Core.Path.{_≡_};
 ghost use Rattle.intake.specs.declared.Call.the-variants.{Opening, Reading, Missed, Absent, Exchange, Disconnection};
 ghost use Rattle.intake.specs.declared.Call.the-variants.{Reconnection, Cancellation, Payment, StoppedCancellation};
@@ -6,12 +6,12 @@ ghost use Rattle.account.specs.Calls.{newAccount};
 ghost use Rattle.account.specs.Outcomes.{outcome};
 
 pub mod calls;
-mod limits;
 mod whole;
 
 use crate::calls::decline;
 use crate::calls::no_estimates;
 use crate::whole::is_whole;
+use duedays::is_list_allowed;
 use intake::Call;
 use intake::Status;
 use ledger::Ledger;
@@ -65,95 +65,114 @@ impl Account {
     }
 
     // 01: opening
-    pub fn begin_supply(mut self, day: u16, reading: u32, digits: u8) -> Outcome
-        ensures { λ r. ⌜ r ≡ outcome self (Opening day reading digits) ⌝ }
+    pub fn begin_supply(mut self, holidays: &[u16], day: u16, reading: u32, digits: u8) -> Outcome
+        ensures { λ r. ⌜ r ≡ outcome (now (holidays .entry)) self (Opening day reading digits) ⌝ }
     {
-        self.apply(Call::Opening {
-            day,
-            reading,
-            digits,
-        })
+        self.apply(
+            holidays,
+            Call::Opening {
+                day,
+                reading,
+                digits,
+            },
+        )
     }
 
     // 02: reading
-    pub fn read_meter(mut self, day: u16, reading: u32, fuel: Fuel) -> Outcome
-        ensures { λ r. ⌜ r ≡ outcome self (Reading day reading fuel) ⌝ }
+    pub fn read_meter(mut self, holidays: &[u16], day: u16, reading: u32, fuel: Fuel) -> Outcome
+        ensures { λ r. ⌜ r ≡ outcome (now (holidays .entry)) self (Reading day reading fuel) ⌝ }
     {
-        self.apply(Call::Reading { day, reading, fuel })
+        self.apply(holidays, Call::Reading { day, reading, fuel })
     }
 
     // 03: missed reading
-    pub fn miss_reading(mut self, day: u16, fuel: Fuel) -> Outcome
-        ensures { λ r. ⌜ r ≡ outcome self (Missed day fuel) ⌝ }
+    pub fn miss_reading(mut self, holidays: &[u16], day: u16, fuel: Fuel) -> Outcome
+        ensures { λ r. ⌜ r ≡ outcome (now (holidays .entry)) self (Missed day fuel) ⌝ }
     {
-        self.apply(Call::Missed { day, fuel })
+        self.apply(holidays, Call::Missed { day, fuel })
     }
 
     // 04: missed reading, absence known
-    pub fn note_absence(mut self, day: u16, fuel: Fuel) -> Outcome
-        ensures { λ r. ⌜ r ≡ outcome self (Absent day fuel) ⌝ }
+    pub fn note_absence(mut self, holidays: &[u16], day: u16, fuel: Fuel) -> Outcome
+        ensures { λ r. ⌜ r ≡ outcome (now (holidays .entry)) self (Absent day fuel) ⌝ }
     {
-        self.apply(Call::Absent { day, fuel })
+        self.apply(holidays, Call::Absent { day, fuel })
     }
 
     // 05: meter change
-    pub fn exchange_meter(mut self, day: u16, old: u32, new: u32, digits: u8) -> Outcome
-        ensures { λ r. ⌜ r ≡ outcome self (Exchange day old new digits) ⌝ }
+    pub fn exchange_meter(
+        mut self,
+        holidays: &[u16],
+        day: u16,
+        old: u32,
+        new: u32,
+        digits: u8,
+    ) -> Outcome
+        ensures { λ r. ⌜ r ≡ outcome (now (holidays .entry)) self (Exchange day old new digits) ⌝ }
     {
-        self.apply(Call::Exchange {
-            day,
-            old,
-            new,
-            digits,
-        })
+        self.apply(
+            holidays,
+            Call::Exchange {
+                day,
+                old,
+                new,
+                digits,
+            },
+        )
     }
 
     // 06: stop
-    pub fn disconnect(mut self, day: u16, reading: u32, fuel: Fuel) -> Outcome
-        ensures { λ r. ⌜ r ≡ outcome self (Disconnection day reading fuel) ⌝ }
+    pub fn disconnect(mut self, holidays: &[u16], day: u16, reading: u32, fuel: Fuel) -> Outcome
+        ensures { λ r. ⌜ r ≡ outcome (now (holidays .entry)) self (Disconnection day reading fuel) ⌝ }
     {
-        self.apply(Call::Disconnection { day, reading, fuel })
+        self.apply(holidays, Call::Disconnection { day, reading, fuel })
     }
 
     // 07: resumption
-    pub fn reconnect(mut self, day: u16, reading: u32, digits: u8) -> Outcome
-        ensures { λ r. ⌜ r ≡ outcome self (Reconnection day reading digits) ⌝ }
+    pub fn reconnect(mut self, holidays: &[u16], day: u16, reading: u32, digits: u8) -> Outcome
+        ensures { λ r. ⌜ r ≡ outcome (now (holidays .entry)) self (Reconnection day reading digits) ⌝ }
     {
-        self.apply(Call::Reconnection {
-            day,
-            reading,
-            digits,
-        })
+        self.apply(
+            holidays,
+            Call::Reconnection {
+                day,
+                reading,
+                digits,
+            },
+        )
     }
 
     // 08: cancellation
-    pub fn cancel(mut self, day: u16, reading: u32, fuel: Fuel) -> Outcome
-        ensures { λ r. ⌜ r ≡ outcome self (Cancellation day reading fuel) ⌝ }
+    pub fn cancel(mut self, holidays: &[u16], day: u16, reading: u32, fuel: Fuel) -> Outcome
+        ensures { λ r. ⌜ r ≡ outcome (now (holidays .entry)) self (Cancellation day reading fuel) ⌝ }
     {
-        self.apply(Call::Cancellation { day, reading, fuel })
+        self.apply(holidays, Call::Cancellation { day, reading, fuel })
     }
 
     // 09: payment
-    pub fn pay(mut self, day: u16, yen: u32) -> Outcome
-        ensures { λ r. ⌜ r ≡ outcome self (Payment day yen) ⌝ }
+    pub fn pay(mut self, holidays: &[u16], day: u16, yen: u32) -> Outcome
+        ensures { λ r. ⌜ r ≡ outcome (now (holidays .entry)) self (Payment day yen) ⌝ }
     {
-        self.apply(Call::Payment { day, yen })
+        self.apply(holidays, Call::Payment { day, yen })
     }
 
     // 0a: cancellation while stopped
-    pub fn cancel_stopped(mut self, day: u16) -> Outcome
-        ensures { λ r. ⌜ r ≡ outcome self (StoppedCancellation day) ⌝ }
+    pub fn cancel_stopped(mut self, holidays: &[u16], day: u16) -> Outcome
+        ensures { λ r. ⌜ r ≡ outcome (now (holidays .entry)) self (StoppedCancellation day) ⌝ }
     {
-        self.apply(Call::StoppedCancellation { day })
+        self.apply(holidays, Call::StoppedCancellation { day })
     }
 
     // Any of the ten.
-    pub fn apply(mut self, call: Call) -> Outcome
-        ensures { λ r. ⌜ r ≡ outcome self call ⌝ }
+    pub fn apply(mut self, holidays: &[u16], call: Call) -> Outcome
+        ensures { λ r. ⌜ r ≡ outcome (now (holidays .entry)) self call ⌝ }
     {
+        if !is_list_allowed(holidays) {
+            return decline(self, 14);
+        }
         if !is_whole(self) {
             return decline(self, 41);
         }
-        calls::answer(self, call)
+        calls::answer(self, holidays, call)
     }
 }

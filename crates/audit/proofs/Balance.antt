@@ -79,70 +79,35 @@ module _ (day : ℕ) {m : Money} {priced : ℕ} (kept : Kept m priced) {after : 
       }
 
 -- What is entered.
-module _ (kind : Kind) (day amount : ℕ) where
-  items-entered : itemsOf (enteredAs kind day amount) ≡ entered kind day amount
+module _ (holidays : List ℕ) (kind : Kind) (day amount : ℕ) where
+  items-entered : itemsOf (enteredAs holidays kind day amount) ≡ entered holidays kind day amount
   unfolding entered
   items-entered = by-test (ltb 0 amount) (λ e. rw e) (λ e. rw e)
 
-  by-entered : (P : List Entry → Type 0) → (amount ≡ 0 → P []) → (0 < amount → P (entry kind day amount ∷ []))
-      → P (enteredAs kind day amount)
+  by-entered : (P : List Entry → Type 0) → (amount ≡ 0 → P []) → (0 < amount → P (entry holidays kind day amount ∷ []))
+      → P (enteredAs holidays kind day amount)
   by-entered P none some = by-zero amount (λ e. rw e (none e)) (λ l. rw (lt-ltb 0 amount l) (some l))
 
-  fresh-entered : Every Fresh (enteredAs kind day amount)
+  fresh-entered : Every Fresh (enteredAs holidays kind day amount)
   fresh-entered = by-entered (Every Fresh) (λ e. tt) (λ l. (record { in-full = refl; unmarked = λ price. refl }, tt))
 
-  amounts-entered : amounts (enteredAs kind day amount) ≡ amount
+  amounts-entered : amounts (enteredAs holidays kind day amount) ≡ amount
   amounts-entered = by-entered (λ es. amounts es ≡ amount) (λ e. sym e) (λ l. add-zero amount)
 
 -- Interest entries need no mark.
-marks-interest : (paid earlier day amount : ℕ) → Marks paid earlier (enteredAs Interest day amount)
-marks-interest paid earlier day amount =
-    by-entered Interest day amount (Marks paid earlier) (λ e. tt) (λ l. ((λ price. absurd (false≢true price)), tt))
+marks-interest : (holidays : List ℕ) (paid earlier day amount : ℕ) → Marks paid earlier (enteredAs holidays Interest day amount)
+marks-interest holidays paid earlier day amount =
+    by-entered holidays Interest day amount (Marks paid earlier) (λ e. tt) (λ l. ((λ price. absurd (false≢true price)), tt))
 
 signs-are : (net : ℤ) → (aboveZero net ≡ chargeOf net) × (belowZero net ≡ creditOf net)
 signs-are (pos n) = (refl, refl)
 signs-are (negsuc n) = (refl, refl)
 
 module _ (day : ℕ) {m : Money} {priced : ℕ} (kept : Kept m priced) where
-  abbrev interest : List Entry
-  interest = enteredAs Interest day (m .unentered)
-
   -- Where the marks are up to date the settling of a day changes nothing that stands.
   pub settled-same : onLedger (settled m day) ≡ onLedger m
   settled-same =
       rw (items-marked (paidIn m) 0 (m .entries), none-arising day (paidIn m) 0 (m .entries) (kept .marks), add-zero (m .unentered))
-
-  -- A closing.
-  module _ (net : ℤ) where
-    abbrev charge : List Entry
-    charge = enteredAs Price day (aboveZero net)
-
-    closes : Adds m (Book.closed m day net)
-    closes =
-        record {
-          more = belowZero net;
-          behind = interest ++ charge;
-          entries-are = refl;
-          paid-is = omega arith;
-          fresh =
-              every-append Fresh interest charge (fresh-entered Interest day (m .unentered)) (fresh-entered Price day (aboveZero net));
-        }
-
-    pub closed-is : Posting.closed day net (onLedger m) ≡ onLedger (settled (Book.closed m day net) day)
-    unfolding Posting.closed closes
-    closed-is =
-        let held = items-entered Interest day (m .unentered) in
-        let charged = items-entered Price day (aboveZero net) in
-        rw (← signs-are net .1, ← signs-are net .0, ← held, ← charged, ← map-append (λ e. e .item) interest charge)
-        (posted-is day kept closes)
-
-    pub closed-kept : {after : ℕ} → after + belowZero net ≡ priced + aboveZero net → Kept (settled (Book.closed m day net) day) after
-    closed-kept e =
-        let all = total-append (λ x. x .item .amount) (m .entries) (interest ++ charge) in
-        let new = total-append (λ x. x .item .amount) interest charge in
-        let held = amounts-entered Interest day (m .unentered) in
-        let charged = amounts-entered Price day (aboveZero net) in
-        kept-settled day kept closes (omega (arith, all, new, held, charged, kept .sums))
 
   -- A payment.
   module _ (yen : ℕ) where
@@ -156,44 +121,81 @@ module _ (day : ℕ) {m : Money} {priced : ℕ} (kept : Kept m priced) where
     pub paid-kept : Kept (settled (received m yen) day) priced
     paid-kept = kept-settled day kept pays (kept .sums)
 
+  -- A call that enters and pays nothing.
+  pub quiet-kept : Kept (settled m day) priced
+  quiet-kept = kept-settled day kept (adds-money 0 refl (sym (add-zero (paidIn m)))) (kept .sums)
+
+-- What goes by the list of closed days.
+module _ (holidays : List ℕ) (day : ℕ) {m : Money} {priced : ℕ} (kept : Kept m priced) where
+  abbrev interest : List Entry
+  interest = enteredAs holidays Interest day (m .unentered)
+
+  -- A closing.
+  module _ (net : ℤ) where
+    abbrev charge : List Entry
+    charge = enteredAs holidays Price day (aboveZero net)
+
+    closes : Adds m (Book.closed holidays m day net)
+    closes =
+        record {
+          more = belowZero net;
+          behind = interest ++ charge;
+          entries-are = refl;
+          paid-is = omega arith;
+          fresh =
+              every-append Fresh interest charge (fresh-entered holidays Interest day (m .unentered)) (fresh-entered holidays Price day (aboveZero net));
+        }
+
+    pub closed-is : Posting.closed holidays day net (onLedger m) ≡ onLedger (settled (Book.closed holidays m day net) day)
+    unfolding Posting.closed closes
+    closed-is =
+        let held = items-entered holidays Interest day (m .unentered) in
+        let charged = items-entered holidays Price day (aboveZero net) in
+        rw (← signs-are net .1, ← signs-are net .0, ← held, ← charged, ← map-append (λ e. e .item) interest charge)
+        (posted-is day kept closes)
+
+    pub closed-kept : {after : ℕ} → after + belowZero net ≡ priced + aboveZero net → Kept (settled (Book.closed holidays m day net) day) after
+    closed-kept e =
+        let all = total-append (λ x. x .item .amount) (m .entries) (interest ++ charge) in
+        let new = total-append (λ x. x .item .amount) interest charge in
+        let held = amounts-entered holidays Interest day (m .unentered) in
+        let charged = amounts-entered holidays Price day (aboveZero net) in
+        kept-settled day kept closes (omega (arith, all, new, held, charged, kept .sums))
+
   -- Interest not yet entered is entered by itself.
-  enters : Adds m (interestEntered m day)
+  enters : Adds m (interestEntered holidays m day)
   enters =
       record {
         more = 0;
         behind = interest;
         entries-are = refl;
         paid-is = sym (add-zero (paidIn m));
-        fresh = fresh-entered Interest day (m .unentered);
+        fresh = fresh-entered holidays Interest day (m .unentered);
       }
 
-  pub entered-kept : Kept (interestEntered m day) priced
+  pub entered-kept : Kept (interestEntered holidays m day) priced
   entered-kept =
-      let fresh = fresh-entered Interest day (m .unentered) in
+      let fresh = fresh-entered holidays Interest day (m .unentered) in
       let all = total-append (λ x. x .item .amount) (m .entries) interest in
       record {
         full = every-append Full (m .entries) interest (kept .full) (every-map Fresh Full (λ e f. f .in-full) interest fresh);
         marks =
             marks-append (paidIn m) 0 (m .entries) interest (kept .marks)
-            (marks-interest (paidIn m) (0 + amounts (m .entries)) day (m .unentered));
-        sums = omega (arith, all, amounts-entered Interest day (m .unentered), kept .sums);
+            (marks-interest holidays (paidIn m) (0 + amounts (m .entries)) day (m .unentered));
+        sums = omega (arith, all, amounts-entered holidays Interest day (m .unentered), kept .sums);
       }
 
-  -- A call that enters and pays nothing.
-  pub quiet-kept : Kept (settled m day) priced
-  quiet-kept = kept-settled day kept (adds-money 0 refl (sym (add-zero (paidIn m)))) (kept .sums)
-
-pub entered-is : (day : ℕ) {m : Money} {priced : ℕ} → Kept m priced → heldPosted day (onLedger m) ≡ onLedger (interestEntered m day)
+pub entered-is : (holidays : List ℕ) (day : ℕ) {m : Money} {priced : ℕ} → Kept m priced → heldPosted holidays day (onLedger m) ≡ onLedger (interestEntered holidays m day)
 unfolding heldPosted enters
-entered-is day {m} kept =
-    rw (← items-entered Interest day (m .unentered))
-    (posted-is day kept (enters day kept) ∙ settled-same day (entered-kept day kept))
+entered-is holidays day {m} kept =
+    rw (← items-entered holidays Interest day (m .unentered))
+    (posted-is day kept (enters holidays day kept) ∙ settled-same day (entered-kept holidays day kept))
 
 -- Where nothing waits to be entered, the end of a call on a cancelled account changes nothing that stands.
-pub nothing-waits : (day : ℕ) {m : Money} {priced : ℕ} → Kept m priced → m .unentered ≡ 0
-    → onLedger (interestEntered (settled m day) day) ≡ onLedger m
-nothing-waits day {m} kept none =
-    sym (entered-is day (quiet-kept day kept)) ∙ ap (heldPosted day) (settled-same day kept) ∙ entered-is day kept ∙
+pub nothing-waits : (holidays : List ℕ) (day : ℕ) {m : Money} {priced : ℕ} → Kept m priced → m .unentered ≡ 0
+    → onLedger (interestEntered holidays (settled m day) day) ≡ onLedger m
+nothing-waits holidays day {m} kept none =
+    sym (entered-is holidays day (quiet-kept day kept)) ∙ ap (heldPosted holidays day) (settled-same day kept) ∙ entered-is holidays day kept ∙
     rw (none, append-nil (m .entries))
 
 -- The second sum, of what stands and what the book keeps.
@@ -207,11 +209,11 @@ yen-sum {m} {priced} kept =
     unpaid-in-full (e ∷ es) w = omega (arith, w .0, unpaid-in-full es (w .1))
 
 -- The end of a call, on an account that is cancelled and on one that is not.
-module _ (m : Money) (day : ℕ) where
-  pub finished-open : m .is-cancelled ≡ false → finished m day ≡ settled m day
+module _ (holidays : List ℕ) (m : Money) (day : ℕ) where
+  pub finished-open : m .is-cancelled ≡ false → finished holidays m day ≡ settled m day
   finished-open e = rw e
 
-  pub finished-cancelled : m .is-cancelled ≡ true → finished m day ≡ interestEntered (settled m day) day
+  pub finished-cancelled : m .is-cancelled ≡ true → finished holidays m day ≡ interestEntered holidays (settled m day) day
   finished-cancelled e = rw e
 
 -- A ledger that a call leaves alone is what the book says stands after the settling of the day.

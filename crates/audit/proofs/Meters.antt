@@ -1,5 +1,5 @@
 -- 01, 05 and 07: calls that close nothing and move no money keep account and book together. Assumes nothing.
-use Rattle.common.proofs.Words.{_≡_, refl, ap, sym, subst, inl, Bool, false, cond, ℕ, _+_, _≤_, le-refl, arith, eqb}
+use Rattle.common.proofs.Words.{_≡_, refl, ap, sym, subst, inl, Bool, false, cond, List, ℕ, _+_, _≤_, le-refl, arith, eqb}
 use Rattle.lists.specs.Every.{Every}
 use Rattle.common.proofs.Cases.{by-cond}
 use Rattle.lists.proofs.Every.{every-map}
@@ -34,12 +34,12 @@ record Carried (a : Account) : Type 0 where
   ledger : LedgerFacts (a .latest) (a .ledger)
 
 -- 01 and 07: the dial is set and a period begins.
-module _ {a : Account} {b : Book} (w : Matched a b) {day reading digits : ℕ} {allowed : Bool}
+module _ (holidays : List ℕ) {a : Account} {b : Book} (w : Matched a b) {day reading digits : ℕ} {allowed : Bool}
     (p : DialPassed allowed (headOf a) day reading digits) where
   begun-matched : Carried a → b .money .is-cancelled ≡ false → (start : ℕ) {bookStart : ℕ} → start ≡ bookStart → start ≤ day + 1
-      → Matched (Calls.begun a day reading digits start .account) (acceptMeter b day (begun (b .metering) reading digits bookStart))
+      → Matched (Calls.begun a day reading digits start .account) (acceptMeter holidays b day (begun (b .metering) reading digits bookStart))
   begun-matched kept not-cancelled start same start-most =
-      rw (finished-open (b .money) day not-cancelled)
+      rw (finished-open holidays (b .money) day not-cancelled)
       (record {
         metered = search;
         balanced = quiet-balanced day (w .balanced);
@@ -48,34 +48,34 @@ module _ {a : Account} {b : Book} (w : Matched a b) {day reading digits : ℕ} {
         load-most = load-same day w;
       })
 
-pub opening-matched : {a : Account} {b : Book} → Matched a b → {day reading digits : ℕ}
+pub opening-matched : (holidays : List ℕ) {a : Account} {b : Book} → Matched a b → {day reading digits : ℕ}
     → DialPassed (isNew (a .status)) (headOf a) day reading digits
-    → Matched (Calls.begun a day reading digits day .account) (acceptMeter b day (begun (b .metering) reading digits day))
-opening-matched {a} w {day} p = begun-matched w p kept (new-open w (p .status-allows)) day refl (omega arith)
+    → Matched (Calls.begun a day reading digits day .account) (acceptMeter holidays b day (begun (b .metering) reading digits day))
+opening-matched holidays {a} w {day} p = begun-matched holidays w p kept (new-open w (p .status-allows)) day refl (omega arith)
   where
     -- nothing has been read, and nothing stands
     kept : Carried a
     kept = subst Carried (sym (new-facts (a .status) a (p .status-allows) (w .facts))) (search (inl, arith))
 
-pub reconnection-matched : {a : Account} {b : Book} → Matched a b → {day reading digits : ℕ}
+pub reconnection-matched : (holidays : List ℕ) {a : Account} {b : Book} → Matched a b → {day reading digits : ℕ}
     → DialPassed (isStopped (a .status)) (headOf a) day reading digits
     → Matched (Calls.begun a day reading digits (resumedStart (stopOf (a .status)) day) .account)
-    (acceptMeter b day (begun (b .metering) reading digits (cond (closedOn (b .periods) day) (day + 1) day)))
-reconnection-matched {a} w {day} p =
+    (acceptMeter holidays b day (begun (b .metering) reading digits (cond (closedOn (b .periods) day) (day + 1) day)))
+reconnection-matched holidays {a} w {day} p =
     let stopped = stop w (p .status-allows) in
     let f = stopped .facts .meter in
-    begun-matched w p (search) (stopped .not-cancelled) (resumedStart (stopOf (a .status)) day)
+    begun-matched holidays w p (search) (stopped .not-cancelled) (resumedStart (stopOf (a .status)) day)
     (ap (λ c. cond c (day + 1) day) (sym (stopped .closed-on day)))
     (by-cond (λ n. n ≤ day + 1) (eqb (stopOf (a .status)) day) (le-refl (day + 1)) (omega arith))
 
 -- 05: the status stays.
-pub exchange-matched : {a : Account} {b : Book} → Matched a b → {day old new digits : ℕ} → ExchangePassed (headOf a) day old new digits
-    → Matched (Calls.exchanged a day old new digits .account) (acceptMeter b day (exchanged (b .metering) old new digits))
-exchange-matched {a} {b} w {day} {old} p =
+pub exchange-matched : (holidays : List ℕ) {a : Account} {b : Book} → Matched a b → {day old new digits : ℕ} → ExchangePassed (headOf a) day old new digits
+    → Matched (Calls.exchanged a day old new digits .account) (acceptMeter holidays b day (exchanged (b .metering) old new digits))
+exchange-matched holidays {a} {b} w {day} {old} p =
     let supplied = supply w (p .supplied) in
     let f = supplied .facts .meter in
     let pool = pool-to (w .metered) old in
-    rw (finished-open (b .money) day (supplied .not-cancelled))
+    rw (finished-open holidays (b .money) day (supplied .not-cancelled))
     (record {
       metered = search;
       balanced = quiet-balanced day (w .balanced);

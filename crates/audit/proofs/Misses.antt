@@ -5,6 +5,7 @@ use Rattle.lists.proofs.{Every.every-append, Pad.take-pad}
 use Rattle.tariff.specs.declared.Fuel.{Fuel}
 use Rattle.tariff.proofs.Bounds.{price-most}
 use Rattle.meter.specs.{declared.Estimate.Estimate, Sharing.blank}
+use Rattle.duedays.specs.DueDays.{listAllowed}
 use Rattle.ledger.specs.Posting.{Standing, standing, closed}
 use Rattle.account.specs.Calls.{headOf, standingEstimates, estimateOf, missed}
 use Rattle.account.specs.declared.Account.{Account}
@@ -22,7 +23,8 @@ use Rattle.audit.proofs.{Balance.finished-open, Periods.sub-added, Peri
 use Rattle.audit.specs.Book
 
 -- A call that is no reading, of a volume within the limit, 0 for known absence.
-module _ {a : Account} {b : Book} (w : Matched a b) {day : ℕ} {fuel : Fuel} (p : MissPassed (headOf a) day fuel)
+module _ (holidays : List ℕ) (listed : listAllowed holidays ≡ true)
+    {a : Account} {b : Book} (w : Matched a b) {day : ℕ} {fuel : Fuel} (p : MissPassed (headOf a) day fuel)
     (call : Call) (no-reading : isReading call ≡ false)
     (volume : ℕ) (within : volume ≤ mostVolume) (absent-zero : isAbsence call ≡ true → volume ≡ 0) where
   -- what the account makes of it
@@ -33,7 +35,7 @@ module _ {a : Account} {b : Book} (w : Matched a b) {day : ℕ} {fuel : Fuel} (p
   estimate = estimateOf a day fuel (isAbsence call) volume
 
   abbrev ledger : Standing
-  ledger = closed day (pos (estimate .charged)) (standing (a .ledger))
+  ledger = closed holidays day (pos (estimate .charged)) (standing (a .ledger))
 
   supplied : Supply a b
   supplied = supply w (p .supplied)
@@ -50,7 +52,7 @@ module _ {a : Account} {b : Book} (w : Matched a b) {day : ℕ} {fuel : Fuel} (p
   net = netAdded (b .periods) periods
 
   money : Money
-  money = settled (Book.closed (b .money) day net) day
+  money = settled (Book.closed holidays (b .money) day net) day
 
   estimate-is : estimate ≡ asEstimate this-period
   unfolding this-period
@@ -78,9 +80,9 @@ module _ {a : Account} {b : Book} (w : Matched a b) {day : ℕ} {fuel : Fuel} (p
   unfolding money net
   closed-after =
       let charged = estimate-bounds .charged-most in
-      closing-stands w (supplied .facts) (p .not-before) (p .day-most) periods net-is (omega arith)
+      closing-stands holidays listed w (supplied .facts) (p .not-before) (p .day-most) periods net-is (omega arith)
 
-  meter-after : MeterFacts (missed a day fuel (isAbsence call) volume .account)
+  meter-after : MeterFacts (missed holidays a day fuel (isAbsence call) volume .account)
   meter-after =
       let all = standingEstimates a ++ (estimate ∷ []) in
       let facts = supplied .facts .meter in
@@ -91,13 +93,13 @@ module _ {a : Account} {b : Book} (w : Matched a b) {day : ℕ} {fuel : Fuel} (p
       let stored = rw (← take-pad blank mostMisses all) at each in
       search
 
-  finished-is : finished (Book.closed (b .money) day net) day ≡ money
+  finished-is : finished holidays (Book.closed holidays (b .money) day net) day ≡ money
   unfolding money
-  finished-is = finished-open (Book.closed (b .money) day net) day (supplied .not-cancelled)
+  finished-is = finished-open holidays (Book.closed holidays (b .money) day net) day (supplied .not-cancelled)
 
-  pub miss-matched : Fits (closed day (pos (estimateOf a day fuel (isAbsence call) volume .charged)) (standing (a .ledger)))
-      → Matched (missed a day fuel (isAbsence call) volume .account)
-      (acceptMiss b day (newPeriod (b .metering) call day fuel volume ∷ b .periods))
+  pub miss-matched : Fits (closed holidays day (pos (estimateOf a day fuel (isAbsence call) volume .charged)) (standing (a .ledger)))
+      → Matched (missed holidays a day fuel (isAbsence call) volume .account)
+      (acceptMiss holidays b day (newPeriod (b .metering) call day fuel volume ∷ b .periods))
   unfolding this-period net
   miss-matched fits =
       rw finished-is

@@ -1,5 +1,6 @@
 -- 09 and 0a: a payment, and a cancellation while stopped, keep account and book together. Assumes nothing.
-use Rattle.common.proofs.Words.{_≡_, refl, ap, true, false, not, false≢true, true≢false, ℕ, _≤_, arith}
+use Rattle.common.proofs.Words.{_≡_, refl, ap, true, false, not, false≢true, true≢false, List, ℕ, _≤_, arith}
+use Rattle.duedays.specs.DueDays.{listAllowed}
 use Rattle.ledger.specs.Posting.{Standing, standing, stored, heldPosted}
 use Rattle.ledger.specs.Limits.{lastCallDay}
 use Rattle.intake.specs.declared.Status.the-variants.{New, Supplied, Stopped, Cancelled}
@@ -17,7 +18,8 @@ use Rattle.audit.proofs.Balance.{finished-open, finished-cancelled}
 use Rattle.audit.proofs.Matching.{Matched, StatusMatch, cancelled-is}
 
 -- What a call leaves that has to do with money alone.
-module _ {a : Account} {b : Book} (w : Matched a b) {day : ℕ} (day-most : day ≤ lastCallDay) (not-before : a .latest ≤ day)
+module _ (holidays : List ℕ) (listed : listAllowed holidays ≡ true)
+    {a : Account} {b : Book} (w : Matched a b) {day : ℕ} (day-most : day ≤ lastCallDay) (not-before : a .latest ≤ day)
     (facts : Facts a) where
   abbrev bookWith : Money → Book
   bookWith m = record { metering = b .metering; periods = b .periods; money = m }
@@ -52,41 +54,41 @@ module _ {a : Account} {b : Book} (w : Matched a b) {day : ℕ} (day-most : day 
 
     open-payment : (status : Status) → isCancelled status ≡ false → not (isNew status) ≡ true → StatusMatch status b → StatusFacts status a
         → Fits (paidLedger a day yen)
-        → Matched (withLedger a day status (stored (paidLedger a day yen))) (acceptMoney b day (received (b .money) yen))
+        → Matched (withLedger a day status (stored (paidLedger a day yen))) (acceptMoney holidays b day (received (b .money) yen))
     open-payment New running known match kept fits = absurd (false≢true known)
     open-payment (Supplied start) running known match kept fits =
-        rw (finished-open (received (b .money) yen) day (match .1))
+        rw (finished-open holidays (received (b .money) yen) day (match .1))
         (money-matched paid-after fits (Supplied start) match (omega (arith, kept .0), facts-after paid-after fits (Supplied start)))
     open-payment (Stopped stop) running known match kept fits =
-        rw (finished-open (received (b .money) yen) day (match .1))
+        rw (finished-open holidays (received (b .money) yen) day (match .1))
         (money-matched paid-after fits (Stopped stop) match (omega (arith, kept .0), facts-after paid-after fits (Stopped stop)))
     open-payment Cancelled running known match kept fits = absurd (true≢false running)
 
-    cancelled-payment : b .money .is-cancelled ≡ true → Fits (heldPosted day (paidLedger a day yen))
-        → Matched (withLedger a day Cancelled (stored (heldPosted day (paidLedger a day yen))))
-        (acceptMoney b day (received (b .money) yen))
+    cancelled-payment : b .money .is-cancelled ≡ true → Fits (heldPosted holidays day (paidLedger a day yen))
+        → Matched (withLedger a day Cancelled (stored (heldPosted holidays day (paidLedger a day yen))))
+        (acceptMoney holidays b day (received (b .money) yen))
     cancelled-payment marked fits =
-        rw (finished-cancelled (received (b .money) yen) day marked)
-        (cancelled-matched (posted-stands paid-after day-most (fits .count-most)) fits refl marked)
+        rw (finished-cancelled holidays (received (b .money) yen) day marked)
+        (cancelled-matched (posted-stands paid-after holidays listed day-most (fits .count-most)) fits refl marked)
 
   -- 0a: cancellation while stopped.
-  pub stopped-cancellation-matched : Fits (heldPosted day (standing (a .ledger)))
-      → Matched (stoppedCancellation a day .account) (acceptMoney b day (cancelled (interestEntered (b .money) day)))
+  pub stopped-cancellation-matched : Fits (heldPosted holidays day (standing (a .ledger)))
+      → Matched (stoppedCancellation holidays a day .account) (acceptMoney holidays b day (cancelled (interestEntered holidays (b .money) day)))
   stopped-cancellation-matched fits =
-      let posted = posted-stands before day-most (fits .count-most) in
-      cancelled-matched (cancelled-stands (waits-stands posted refl)) fits refl refl
+      let posted = posted-stands before holidays listed day-most (fits .count-most) in
+      cancelled-matched (cancelled-stands (waits-stands posted holidays refl)) fits refl refl
 
 -- 09 by status.
-pub payment-matched : {a : Account} {b : Book} → Matched a b → {day yen : ℕ} → PaymentPassed (headOf a) day yen
-    → (let after = payment a day yen .account .ledger in Passes (after .count) (after .credit))
-    → Matched (payment a day yen .account) (acceptMoney b day (received (b .money) yen))
-payment-matched {a} w {day} {yen} p fits =
+pub payment-matched : (holidays : List ℕ) → listAllowed holidays ≡ true → {a : Account} {b : Book} → Matched a b → {day yen : ℕ} → PaymentPassed (headOf a) day yen
+    → (let after = payment holidays a day yen .account .ledger in Passes (after .count) (after .credit))
+    → Matched (payment holidays a day yen .account) (acceptMoney holidays b day (received (b .money) yen))
+payment-matched holidays listed {a} w {day} {yen} p fits =
     let facts = not-new-facts (a .status) a (p .not-new) (w .facts) in
     by-test (isCancelled (a .status))
     (λ e.
     let is = cancelled-is (a .status) e in
     let match = rw is at (w .status-match) in
-    rw is (cancelled-payment w (p .day-most) (p .not-before) facts yen (match .1) (rw is at fits)))
+    rw is (cancelled-payment holidays listed w (p .day-most) (p .not-before) facts yen (match .1) (rw is at fits)))
     (λ e.
     rw e
-    (open-payment w (p .day-most) (p .not-before) facts yen (a .status) e (p .not-new) (w .status-match) (w .facts) (rw e at fits)))
+    (open-payment holidays listed w (p .day-most) (p .not-before) facts yen (a .status) e (p .not-new) (w .status-match) (w .facts) (rw e at fits)))

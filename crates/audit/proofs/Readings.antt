@@ -6,6 +6,7 @@ use Rattle.tariff.specs.declared.Fuel.{Fuel}
 use Rattle.tariff.proofs.Bounds.{price-most}
 use Rattle.meter.specs.Metering.{poolTo, readAt}
 use Rattle.meter.proofs.Sharing.{final-sum}
+use Rattle.duedays.specs.DueDays.{listAllowed}
 use Rattle.ledger.specs.Posting.{Standing, stored, heldPosted, chargeOf}
 use Rattle.ledger.specs.declared.Ledger.{Ledger}
 use Rattle.intake.specs.declared.Status.{Status}
@@ -29,7 +30,8 @@ use Rattle.account.specs.Calls
 use Rattle.audit.specs.Book
 
 -- A call that is a real reading.
-module _ {a : Account} {b : Book} (w : Matched a b) {day reading : ℕ} {fuel : Fuel} (p : ReadingPassed (headOf a) day reading fuel)
+module _ (holidays : List ℕ) (listed : listAllowed holidays ≡ true)
+    {a : Account} {b : Book} (w : Matched a b) {day reading : ℕ} {fuel : Fuel} (p : ReadingPassed (headOf a) day reading fuel)
     (call : Call) (is-reading : isReading call ≡ true) (no-absence : isAbsence call ≡ false) where
   -- what the account makes of it
   abbrev days : ℕ
@@ -42,7 +44,7 @@ module _ {a : Account} {b : Book} (w : Matched a b) {day reading : ℕ} {fuel : 
   price = closingPrice a day reading fuel
 
   abbrev ledger : Standing
-  ledger = closedLedger a day reading fuel
+  ledger = closedLedger holidays a day reading fuel
 
   supplied : Supply a b
   supplied = supply w (p .supplied)
@@ -64,7 +66,7 @@ module _ {a : Account} {b : Book} (w : Matched a b) {day reading : ℕ} {fuel : 
 
   -- The money of the book before interest that a cancellation enters.
   money : Money
-  money = settled (Book.closed (b .money) day net) day
+  money = settled (Book.closed holidays (b .money) day net) day
 
   pool-is : poolTo (a .meter) reading ≡ pool
   unfolding pool
@@ -103,7 +105,7 @@ module _ {a : Account} {b : Book} (w : Matched a b) {day reading : ℕ} {fuel : 
   closed-after : Stands day ledger money (prices periods)
   unfolding money net
   closed-after =
-      closing-stands w (supplied .facts) (p .not-before) (p .day-most) periods net-is (omega (arith, charge-within))
+      closing-stands holidays listed w (supplied .facts) (p .not-before) (p .day-most) periods net-is (omega (arith, charge-within))
 
   -- What the account keeps to after the reading.
   meter-after : (status : Status) (after : Ledger) → MeterFacts (afterReading a day reading fuel status after)
@@ -129,14 +131,14 @@ module _ {a : Account} {b : Book} (w : Matched a b) {day reading : ℕ} {fuel : 
     facts-after : (status : Status) → Facts (afterReading a day reading fuel status (stored ledger))
     facts-after status = record { meter = meter-after status (stored ledger); ledger = stands-facts closed-after fits }
 
-    finished-is : finished (Book.closed (b .money) day net) day ≡ money
+    finished-is : finished holidays (Book.closed holidays (b .money) day net) day ≡ money
     unfolding money
-    finished-is = finished-open (Book.closed (b .money) day net) day (supplied .not-cancelled)
+    finished-is = finished-open holidays (Book.closed holidays (b .money) day net) day (supplied .not-cancelled)
 
     read-matched : (status : Status)
         → StatusMatch status (record { metering = read (b .metering) day reading; periods = periods; money = money })
         → StatusFacts status (afterReading a day reading fuel status (stored ledger))
-        → Matched (Calls.read a day reading fuel status .account) (acceptReading b call day reading fuel (λ m. m))
+        → Matched (Calls.read holidays a day reading fuel status .account) (acceptReading holidays b call day reading fuel (λ m. m))
     unfolding periods net
     read-matched status match facts =
         rw finished-is
@@ -149,22 +151,22 @@ module _ {a : Account} {b : Book} (w : Matched a b) {day reading : ℕ} {fuel : 
         })
 
     pub reading-matched :
-        Matched (Calls.read a day reading fuel (Supplied (dayAfter day)) .account) (acceptReading b call day reading fuel (λ m. m))
+        Matched (Calls.read holidays a day reading fuel (Supplied (dayAfter day)) .account) (acceptReading holidays b call day reading fuel (λ m. m))
     unfolding money
     reading-matched =
         read-matched (Supplied (dayAfter day)) (refl, supplied .not-cancelled) (le-refl (day + 1), facts-after (Supplied (dayAfter day)))
 
     pub disconnection-matched :
-        Matched (Calls.read a day reading fuel (Stopped day) .account) (acceptReading b call day reading fuel (λ m. m))
+        Matched (Calls.read holidays a day reading fuel (Stopped day) .account) (acceptReading holidays b call day reading fuel (λ m. m))
     unfolding money periods
     disconnection-matched = read-matched (Stopped day) ((λ d. refl), supplied .not-cancelled) (le-refl day, facts-after (Stopped day))
 
   -- 08: cancellation.
-  module _ (fits : Fits (heldPosted day ledger)) where
-    last-after : Stands day (heldPosted day ledger) (cancelled (interestEntered money day)) (prices periods)
-    last-after = cancelled-stands (posted-stands closed-after (p .day-most) (fits .count-most))
+  module _ (fits : Fits (heldPosted holidays day ledger)) where
+    last-after : Stands day (heldPosted holidays day ledger) (cancelled (interestEntered holidays money day)) (prices periods)
+    last-after = cancelled-stands (posted-stands closed-after holidays listed (p .day-most) (fits .count-most))
 
-    pub cancellation-matched : Matched (Calls.cancelled a day reading fuel .account) (acceptReading b call day reading fuel cancelled)
+    pub cancellation-matched : Matched (Calls.cancelled holidays a day reading fuel .account) (acceptReading holidays b call day reading fuel cancelled)
     unfolding periods net money
     cancellation-matched =
         record {
@@ -173,7 +175,7 @@ module _ {a : Account} {b : Book} (w : Matched a b) {day reading : ℕ} {fuel : 
           status-match = (refl, refl);
           facts = (
             ap (λ (s : Standing). s .held) (last-after .is),
-            record { meter = meter-after Cancelled (stored (heldPosted day ledger)); ledger = stands-facts last-after fits },
+            record { meter = meter-after Cancelled (stored (heldPosted holidays day ledger)); ledger = stands-facts last-after fits },
           );
           load-most = stands-load last-after;
         }

@@ -1,6 +1,7 @@
 -- What stands on the account is what the book says stands, within its bounds: on a day, and through what calls do to it. Assumes nothing.
-use Rattle.common.proofs.Words.{_≡_, ap, sym, subst, _∙_, _⊎_, List, [], ℕ, _+_, _≤_, arith, ℤ, length}
+use Rattle.common.proofs.Words.{_≡_, ap, sym, subst, _∙_, _⊎_, true, List, [], ℕ, _+_, _≤_, arith, ℤ, length}
 use Rattle.lists.proofs.Every.{every-map}
+use Rattle.duedays.specs.DueDays.{listAllowed}
 use Rattle.ledger.specs.Limits.{lastCallDay, capacity, mostPrice}
 use Rattle.ledger.specs.Posting.{Standing, standing, stored, paid, closed, heldPosted, chargeOf}
 use Rattle.ledger.proofs.{Bounds.standing-stored, Settling.left-or-none, Within.Passes}
@@ -63,10 +64,10 @@ module _ {day : ℕ} {x : Standing} {m : Money} {priced : ℕ} (s : Stands day x
   cancelled-stands = search
 
   -- Nothing waits to be entered: the end of a call on a cancelled account.
-  pub waits-stands : m .unentered ≡ 0 → Stands day x (interestEntered (settled m day) day) priced
-  waits-stands none =
-      let is = s .is ∙ sym (nothing-waits day (s .kept) none) in
-      record { is = is; kept = entered-kept day (quiet-kept day (s .kept)); bounded = s .bounded }
+  pub waits-stands : (holidays : List ℕ) → m .unentered ≡ 0 → Stands day x (interestEntered holidays (settled m day) day) priced
+  waits-stands holidays none =
+      let is = s .is ∙ sym (nothing-waits holidays day (s .kept) none) in
+      record { is = is; kept = entered-kept holidays day (quiet-kept day (s .kept)); bounded = s .bounded }
 
   module _ (day-most : day ≤ lastCallDay) where
     pub paid-stands : (yen : ℕ) → Stands day (paid day yen x) (settled (received m yen) day) priced
@@ -77,38 +78,40 @@ module _ {day : ℕ} {x : Standing} {m : Money} {priced : ℕ} (s : Stands day x
           bounded = paid-bounded day yen x day-most (s .bounded);
         }
 
+  module _ (holidays : List ℕ) (listed : listAllowed holidays ≡ true) (day-most : day ≤ lastCallDay) where
     closed-stands : (net : ℤ) {after : ℕ} → chargeOf net ≤ mostPrice → length (onLedger m .open-items) ≤ capacity
         → after + belowZero net ≡ priced + aboveZero net
-        → Stands day (closed day net x) (settled (Book.closed m day net) day) after
+        → Stands day (closed holidays day net x) (settled (Book.closed holidays m day net) day) after
     closed-stands net charge places sums =
         record {
-          is = rw (s .is) (closed-is day (s .kept) net);
-          kept = closed-kept day (s .kept) net sums;
+          is = rw (s .is) (closed-is holidays day (s .kept) net);
+          kept = closed-kept holidays day (s .kept) net sums;
           bounded =
-              closed-bounded day x day-most (s .bounded .sound .items) (held-most day x (s .bounded)) net charge (rw (s .is) places);
+              closed-bounded holidays day x listed day-most (s .bounded .sound .items) (held-most day x (s .bounded)) net charge (rw (s .is) places);
         }
 
-    pub posted-stands : length (heldPosted day x .open-items) ≤ capacity → Stands day (heldPosted day x) (interestEntered m day) priced
+    pub posted-stands : length (heldPosted holidays day x .open-items) ≤ capacity → Stands day (heldPosted holidays day x) (interestEntered holidays m day) priced
     posted-stands places =
-        let is : heldPosted day x ≡ onLedger (interestEntered m day) = rw (s .is) (entered-is day (s .kept)) in
+        let is : heldPosted holidays day x ≡ onLedger (interestEntered holidays m day) = rw (s .is) (entered-is holidays day (s .kept)) in
         let none = ap (λ (y : Standing). y .held) is in
         record {
           is = is;
-          kept = entered-kept day (s .kept);
+          kept = entered-kept holidays day (s .kept);
           bounded =
               record {
-                sound = posted-sound day x day-most (s .bounded .sound .items) (held-most day x (s .bounded));
+                sound = posted-sound holidays day x listed day-most (s .bounded .sound .items) (held-most day x (s .bounded));
                 load-most = omega (arith, none, places);
               };
         }
 
 -- A closing on a matched account.
-pub closing-stands : {a : Account} {b : Book} {day : ℕ} → Matched a b → Facts a → a .latest ≤ day → day ≤ lastCallDay
+pub closing-stands : (holidays : List ℕ) → listAllowed holidays ≡ true
+    → {a : Account} {b : Book} {day : ℕ} → Matched a b → Facts a → a .latest ≤ day → day ≤ lastCallDay
     → (periods : List Period) {net : ℤ} → net ≡ netAdded (b .periods) periods → chargeOf net ≤ mostPrice
-    → Stands day (closed day net (standing (a .ledger)))
-    (settled (Book.closed (b .money) day (netAdded (b .periods) periods)) day) (prices periods)
-closing-stands {b = b} w facts h most periods is charge =
+    → Stands day (closed holidays day net (standing (a .ledger)))
+    (settled (Book.closed holidays (b .money) day (netAdded (b .periods) periods)) day) (prices periods)
+closing-stands holidays listed {b = b} w facts h most periods is charge =
     let before = stands w facts h in
     rw is
-    (closed-stands before most (netAdded (b .periods) periods) (rw is at charge) (w .balanced .fits)
+    (closed-stands before holidays listed most (netAdded (b .periods) periods) (rw is at charge) (w .balanced .fits)
     (difference (prices periods) (prices (b .periods))))

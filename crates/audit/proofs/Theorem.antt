@@ -1,4 +1,5 @@
--- Demand 3: both sums, wholeness, and declined calls, after every list of calls from a new account. Assumes nothing.
+-- Demand 3: both sums, wholeness, and declined calls, by every list of closed days, after every list of calls from a new account.
+-- Assumes nothing.
 use Rattle.common.proofs.Words.{_≡_, refl, sym, ap, subst, _∙_, Bool, true, false, false≢true, List, [], _∷_, map, ℕ, _+_, zero-add, arith}
 use Rattle.common.proofs.Words.{eqb, eqb-true}
 use Rattle.lists.specs.Sum.{total, sum}
@@ -26,54 +27,54 @@ use Rattle.audit.proofs.Payments.{payment-matched, stopped-cancellation
 use Rattle.account.proofs.Passed
 
 -- An accepted call keeps account and book together, and makes final what the book's meters advanced.
-record Kept (a : Account) (b : Book) (call : Call) : Type 0 where
-  pub matched : Matched (work a call .account) (accept b call)
-  pub volumes : sum (work a call .volumes) + b .metering .advanced ≡ accept b call .metering .advanced
+record Kept (holidays : List ℕ) (a : Account) (b : Book) (call : Call) : Type 0 where
+  pub matched : Matched (work holidays a call .account) (accept holidays b call)
+  pub volumes : sum (work holidays a call .volumes) + b .metering .advanced ≡ accept holidays b call .metering .advanced
 
 -- 12 and 13 let it pass.
-passes : {a : Account} {call : Call} → Accepted a call
-    → let after = work a call .account .ledger in
+passes : {holidays : List ℕ} {a : Account} {call : Call} → Accepted holidays a call
+    → let after = work holidays a call .account .ledger in
     Passes (after .count) (after .credit)
 passes p = record { count-most = p .items-most; credit-most = p .credit-most }
 
-keeps : (a : Account) (b : Book) → Matched a b → (call : Call) → Accepted a call → Kept a b call
+keeps : (holidays : List ℕ) (a : Account) (b : Book) → Matched a b → (call : Call) → Accepted holidays a call → Kept holidays a b call
 unfolding work accept firstRefusal
-keeps a b w (Opening day reading digits) p =
+keeps holidays a b w (Opening day reading digits) p =
     let q = dial-passed (isNew (a .status)) (headOf a) day reading digits (p .first-passed) in
-    record { matched = opening-matched w q; volumes = zero-add _ }
-keeps a b w (Reading day reading fuel) p =
+    record { matched = opening-matched holidays w q; volumes = zero-add _ }
+keeps holidays a b w (Reading day reading fuel) p =
     let call = Reading day reading fuel in
     let q = reading-passed (headOf a) day reading fuel (p .first-passed) in
-    record { matched = reading-matched w q call refl refl (passes p); volumes = reading-advanced w q call refl refl }
-keeps a b w (Missed day fuel) p =
+    record { matched = reading-matched holidays (p .listed) w q call refl refl (passes p); volumes = reading-advanced holidays (p .listed) w q call refl refl }
+keeps holidays a b w (Missed day fuel) p =
     let call = Missed day fuel in
     let q = miss-passed (headOf a) day fuel (p .first-passed) in
     let previous = supply w (q .supplied) .facts .meter .previous-most in
-    let after = miss-matched w q call refl (a .meter .previous) previous (λ e. absurd (false≢true e)) (passes p) in
-    let With : ℕ → Type 0 = λ v. Matched (work a call .account) (acceptMiss b day (newPeriod (b .metering) call day fuel v ∷ b .periods)) in
+    let after = miss-matched holidays (p .listed) w q call refl (a .meter .previous) previous (λ e. absurd (false≢true e)) (passes p) in
+    let With : ℕ → Type 0 = λ v. Matched (work holidays a call .account) (acceptMiss holidays b day (newPeriod (b .metering) call day fuel v ∷ b .periods)) in
     record { matched = subst With (w .metered .previous-is) after; volumes = zero-add _ }
-keeps a b w (Absent day fuel) p =
+keeps holidays a b w (Absent day fuel) p =
     let q = miss-passed (headOf a) day fuel (p .first-passed) in
-    record { matched = miss-matched w q (Absent day fuel) refl 0 (omega arith) (λ _. refl) (passes p); volumes = zero-add _ }
-keeps a b w (Exchange day old new digits) p =
-    record { matched = exchange-matched w (exchange-passed (headOf a) day old new digits (p .first-passed)); volumes = zero-add _ }
-keeps a b w (Disconnection day reading fuel) p =
+    record { matched = miss-matched holidays (p .listed) w q (Absent day fuel) refl 0 (omega arith) (λ _. refl) (passes p); volumes = zero-add _ }
+keeps holidays a b w (Exchange day old new digits) p =
+    record { matched = exchange-matched holidays w (exchange-passed (headOf a) day old new digits (p .first-passed)); volumes = zero-add _ }
+keeps holidays a b w (Disconnection day reading fuel) p =
     let call = Disconnection day reading fuel in
     let q = reading-passed (headOf a) day reading fuel (p .first-passed) in
-    record { matched = disconnection-matched w q call refl refl (passes p); volumes = reading-advanced w q call refl refl }
-keeps a b w (Reconnection day reading digits) p =
+    record { matched = disconnection-matched holidays (p .listed) w q call refl refl (passes p); volumes = reading-advanced holidays (p .listed) w q call refl refl }
+keeps holidays a b w (Reconnection day reading digits) p =
     let q = dial-passed (isStopped (a .status)) (headOf a) day reading digits (p .first-passed) in
-    record { matched = reconnection-matched w q; volumes = zero-add _ }
-keeps a b w (Cancellation day reading fuel) p =
+    record { matched = reconnection-matched holidays w q; volumes = zero-add _ }
+keeps holidays a b w (Cancellation day reading fuel) p =
     let call = Cancellation day reading fuel in
     let q = reading-passed (headOf a) day reading fuel (p .first-passed) in
-    record { matched = cancellation-matched w q call refl refl (passes p); volumes = reading-advanced w q call refl refl }
-keeps a b w (Payment day yen) p =
-    record { matched = payment-matched w (payment-passed (headOf a) day yen (p .first-passed)) (passes p); volumes = zero-add _ }
-keeps a b w (StoppedCancellation day) p =
+    record { matched = cancellation-matched holidays (p .listed) w q call refl refl (passes p); volumes = reading-advanced holidays (p .listed) w q call refl refl }
+keeps holidays a b w (Payment day yen) p =
+    record { matched = payment-matched holidays (p .listed) w (payment-passed (headOf a) day yen (p .first-passed)) (passes p); volumes = zero-add _ }
+keeps holidays a b w (StoppedCancellation day) p =
     let q = begun (isStopped (a .status)) (a .latest) day 0 (p .first-passed) in
     let facts = stop w (q .status-allows) .facts in
-    record { matched = stopped-cancellation-matched w (q .day-most) (q .not-before) facts (passes p); volumes = zero-add _ }
+    record { matched = stopped-cancellation-matched holidays (p .listed) w (q .day-most) (q .not-before) facts (passes p); volumes = zero-add _ }
 
 -- A run: account and book belong together, and the first sum holds.
 record Holds (r : Run) : Type 0 where
@@ -81,36 +82,36 @@ record Holds (r : Run) : Type 0 where
   pub volumes : total finalVolume (r .answers) ≡ r .book .metering .advanced
 
 -- What an accepted call and a declined one hand back.
-module _ (a : Account) (call : Call) where
+module _ (holidays : List ℕ) (a : Account) (call : Call) where
   abbrev accepts : Bool
-  accepts = eqb (refusal a call) 0
+  accepts = eqb (refusal holidays a call) 0
 
-  accepted-is : accepts ≡ true → outcome a call ≡ accepted (work a call)
+  accepted-is : accepts ≡ true → outcome holidays a call ≡ accepted (work holidays a call)
   unfolding outcome
   accepted-is e = rw e
 
-  declined-is : accepts ≡ false → outcome a call ≡ declined a (refusal a call)
+  declined-is : accepts ≡ false → outcome holidays a call ≡ declined a (refusal holidays a call)
   unfolding outcome
   declined-is e = rw e
 
 final-of : (w : Work) → finalVolume (accepted w .answer) ≡ sum (w .volumes)
 final-of w = ap sum (take-pad 0 7 (w .volumes))
 
-step-holds : (r : Run) (call : Call) → Holds r → Holds (step r call)
+step-holds : (holidays : List ℕ) (r : Run) (call : Call) → Holds r → Holds (step holidays r call)
 unfolding enter
-step-holds r call h =
+step-holds holidays r call h =
     let a = r .account in
-    by-test (accepts a call)
+    by-test (accepts holidays a call)
     (λ e.
-    let kept = keeps a (r .book) (h .matched) call (Passed.accepted a call (eqb-true (refusal a call) 0 e)) in
-    let final = final-of (work a call) in
-    rw (accepted-is a call e) (record { matched = kept .matched; volumes = omega (arith, final, kept .volumes, h .volumes) }))
-    (λ e. rw (declined-is a call e, e) (record { matched = h .matched; volumes = omega (arith, h .volumes) }))
+    let kept = keeps holidays a (r .book) (h .matched) call (Passed.accepted holidays a call (eqb-true (refusal holidays a call) 0 e)) in
+    let final = final-of (work holidays a call) in
+    rw (accepted-is holidays a call e) (record { matched = kept .matched; volumes = omega (arith, final, kept .volumes, h .volumes) }))
+    (λ e. rw (declined-is holidays a call e, e) (record { matched = h .matched; volumes = omega (arith, h .volumes) }))
 
-run-holds : (r : Run) (calls : List Call) → Holds r → Holds (run r calls)
+run-holds : (holidays : List ℕ) (r : Run) (calls : List Call) → Holds r → Holds (run holidays r calls)
 unfolding run
-run-holds r [] h = h
-run-holds r (call ∷ calls) h = run-holds (step r call) calls (step-holds r call h)
+run-holds holidays r [] h = h
+run-holds holidays r (call ∷ calls) h = run-holds holidays (step holidays r call) calls (step-holds holidays r call h)
 
 start-holds : Holds start
 unfolding asMade madeMeter madeEstimates madeLedger
@@ -135,46 +136,46 @@ yen-holds w =
     omega (arith, ap (λ x. unpaidOf (x .open-items)) s, ap (λ x. x .held) s, ap (λ x. x .credit) s, yen-sum (w .balanced .kept))
 
 -- A declined call leaves all as it was.
-declined-leaves : (r : Run) (call : Call) → (outcome (r .account) call .answer .number ≡ 0 → ⊥)
-    → (step r call .account ≡ r .account) × (step r call .book ≡ r .book)
+declined-leaves : (holidays : List ℕ) (r : Run) (call : Call) → (outcome holidays (r .account) call .answer .number ≡ 0 → ⊥)
+    → (step holidays r call .account ≡ r .account) × (step holidays r call .book ≡ r .book)
 unfolding enter
-declined-leaves r call number =
-    by-test (accepts (r .account) call) (λ e. absurd (number (ap (λ o. o .answer .number) (accepted-is (r .account) call e))))
-    (λ e. rw (declined-is (r .account) call e, e) (refl, refl))
+declined-leaves holidays r call number =
+    by-test (accepts holidays (r .account) call) (λ e. absurd (number (ap (λ o. o .answer .number) (accepted-is holidays (r .account) call e))))
+    (λ e. rw (declined-is holidays (r .account) call e, e) (refl, refl))
 
 -- The theorem of the two sums.
-pub reconciled : (calls : List Call) → Reconciled (run start calls)
-reconciled calls =
-    let h = run-holds start calls start-holds in
-    let r = run start calls in
+pub reconciled : (holidays : List ℕ) (calls : List Call) → Reconciled holidays (run holidays start calls)
+reconciled holidays calls =
+    let h = run-holds holidays start calls start-holds in
+    let r = run holidays start calls in
     record {
       volumes = h .volumes;
       yen = yen-holds (h .matched);
       is-whole = unfold whole in (facts-whole (r .account .status) (r .account) (h .matched .facts));
-      declined = declined-leaves r;
+      declined = declined-leaves holidays r;
     }
 
 -- The array holds what stands on the ledger, and blanks behind it.
-pub tidy : (calls : List Call) → Tidy (run start calls .account .ledger)
-tidy calls =
-    let balanced = run-holds start calls start-holds .matched .balanced in
+pub tidy : (holidays : List ℕ) (calls : List Call) → Tidy (run holidays start calls .account .ledger)
+tidy holidays calls =
+    let balanced = run-holds holidays start calls start-holds .matched .balanced in
     balanced .stored-as ∙ ap stored (sym (standing-is balanced))
 
 -- So does the array of estimates.
-pub tidy-estimates : (calls : List Call) → let a = run start calls .account in a .estimates ≡ storedEstimates (standingEstimates a)
-tidy-estimates calls =
-    let metered = run-holds start calls start-holds .matched .metered in
+pub tidy-estimates : (holidays : List ℕ) (calls : List Call) → let a = run holidays start calls .account in a .estimates ≡ storedEstimates (standingEstimates a)
+tidy-estimates holidays calls =
+    let metered = run-holds holidays start calls start-holds .matched .metered in
     metered .estimates-are ∙ ap storedEstimates (sym (estimates-stand metered))
 
 -- What runs is the run of its calls.
-seen-is : (r : Run) (done : List Done) → Ran (r .account) done → seen r done ≡ run r (map (λ d. d .call) done)
+seen-is : (holidays : List ℕ) (r : Run) (done : List Done) → Ran holidays (r .account) done → seen holidays r done ≡ run holidays r (map (λ d. d .call) done)
 unfolding run seen
-seen-is r [] w = refl
-seen-is r (d ∷ later) w =
-    let enters : Outcome → Book = λ o. enter (r .book) (d .call) (o .answer .number) in
+seen-is holidays r [] w = refl
+seen-is holidays r (d ∷ later) w =
+    let enters : Outcome → Book = λ o. enter holidays (r .book) (d .call) (o .answer .number) in
     let next : Outcome → Run = λ o. record { account = o .account; book = enters o; answers = o .answer ∷ r .answers } in
-    seen-is (next (d .handed-back)) later (w .1) ∙ ap (λ o. run (next o) (map (λ x. x .call) later)) (w .0)
+    seen-is holidays (next (d .handed-back)) later (w .1) ∙ ap (λ o. run holidays (next o) (map (λ x. x .call) later)) (w .0)
 
 -- Demand 3 of the code: both sums hold of what the methods handed back.
-pub as-run : (done : List Done) → Ran newAccount done → Reconciled (seen start done)
-as-run done w = subst Reconciled (sym (seen-is start done w)) (reconciled (map (λ d. d .call) done))
+pub as-run : (holidays : List ℕ) (done : List Done) → Ran holidays newAccount done → Reconciled holidays (seen holidays start done)
+as-run holidays done w = subst (Reconciled holidays) (sym (seen-is holidays start done w)) (reconciled holidays (map (λ d. d .call) done))

@@ -1,10 +1,11 @@
--- The book: what a list of calls comes to, from the calls and the numbers that answered them, and nothing of the account.
+-- The book: what a list of calls comes to, from the list of closed days, the calls and the numbers that answered them, and nothing of the account.
 use mathlib.Core.Bool.{Bool, true, false, cond, not, _&&_, _||_}
 use mathlib.Core.List.{List, [], _∷_, _++_, map, reverse}
 use Prim.Native.Nat.{ℕ, suc, _+_, _-_}
 use lib.IntN.{ℤ, pos, negsuc, subℕ}
 use lib.Dec.{leb, ltb, eqb}
 use Rattle.lists.specs.Sum.{total}
+use Rattle.duedays.specs.DueDays.{dueDay}
 use Rattle.tariff.specs.{declared.Fuel.Fuel, Price.priceOf}
 use Rattle.meter.specs.{declared.Estimate.Estimate, Dial.advance, Sharing.finalVolumes}
 use Rattle.ledger.specs.{declared.Kind.Kind, declared.Kind.the-variants.Interest, declared.Kind.the-variants.Price, declared.Item.Item}
@@ -144,14 +145,17 @@ lastOf (volume ∷ next ∷ volumes) = lastOf (next ∷ volumes)
 
 -- Items.
 
--- An item of a day, due 30 days later (H).
-abbrev pub entry : Kind → ℕ → ℕ → Entry
-entry kind day amount =
-    record { item = record { amount = amount; unpaid = amount; obligation = day; due = day + 30; kind = kind }; settled = false }
+-- An item of a day, with the ledger's days: due on the first day from 30 days later on that isn't listed as closed.
+abbrev pub entry : List ℕ → Kind → ℕ → ℕ → Entry
+entry holidays kind day amount =
+    record {
+      item = record { amount = amount; unpaid = amount; obligation = day; due = dueDay holidays day; kind = kind };
+      settled = false;
+    }
 
 -- An amount above zero is entered as an item.
-abbrev pub enteredAs : Kind → ℕ → ℕ → List Entry
-enteredAs kind day amount = cond (ltb 0 amount) (entry kind day amount ∷ []) []
+abbrev pub enteredAs : List ℕ → Kind → ℕ → ℕ → List Entry
+enteredAs holidays kind day amount = cond (ltb 0 amount) (entry holidays kind day amount ∷ []) []
 
 -- Settling by definition: a price item is settled by the first call after which payments plus credited nets reach the sum of all items up to it.
 -- `earlier` is what the items before it come to.
@@ -224,10 +228,10 @@ abbrev pub netAdded : List Period → List Period → ℤ
 netAdded before after = subℕ (prices after) (prices before)
 
 -- Interest arisen and not yet entered, if any, is entered as an item, then a net above zero as a price item; a net below zero joins the credited nets.
-abbrev pub closed : Money → ℕ → ℤ → Money
-closed m day net =
+abbrev pub closed : List ℕ → Money → ℕ → ℤ → Money
+closed holidays m day net =
     record {
-      entries = m .entries ++ (enteredAs Interest day (m .unentered) ++ enteredAs Price day (aboveZero net));
+      entries = m .entries ++ (enteredAs holidays Interest day (m .unentered) ++ enteredAs holidays Price day (aboveZero net));
       received = m .received;
       credited = m .credited + belowZero net;
       arisen = m .arisen;
@@ -236,10 +240,10 @@ closed m day net =
     }
 
 -- Interest not yet entered is entered by itself.
-abbrev pub interestEntered : Money → ℕ → Money
-interestEntered m day =
+abbrev pub interestEntered : List ℕ → Money → ℕ → Money
+interestEntered holidays m day =
     record {
-      entries = m .entries ++ enteredAs Interest day (m .unentered);
+      entries = m .entries ++ enteredAs holidays Interest day (m .unentered);
       received = m .received;
       credited = m .credited;
       arisen = m .arisen;
@@ -286,46 +290,46 @@ settled m day =
     }
 
 -- Last, at every call: items are settled, and from an 08 or 0a on, that one included, interest not yet entered is at once entered as one last item.
-abbrev pub finished : Money → ℕ → Money
-finished m day = cond (m .is-cancelled) (interestEntered (settled m day) day) (settled m day)
+abbrev pub finished : List ℕ → Money → ℕ → Money
+finished holidays m day = cond (m .is-cancelled) (interestEntered holidays (settled m day) day) (settled m day)
 
 -- Calls.
 
-abbrev pub acceptReading : Book → Call → ℕ → ℕ → Fuel → (Money → Money) → Book
-acceptReading b call day reading fuel and-then =
+abbrev pub acceptReading : List ℕ → Book → Call → ℕ → ℕ → Fuel → (Money → Money) → Book
+acceptReading holidays b call day reading fuel and-then =
     let periods = withReading (b .metering) (b .periods) call day reading fuel in
     record {
       metering = read (b .metering) day reading;
       periods = periods;
-      money = finished (and-then (closed (b .money) day (netAdded (b .periods) periods))) day;
+      money = finished holidays (and-then (closed holidays (b .money) day (netAdded (b .periods) periods))) day;
     }
 
-abbrev pub acceptMiss : Book → ℕ → List Period → Book
-acceptMiss b day periods =
+abbrev pub acceptMiss : List ℕ → Book → ℕ → List Period → Book
+acceptMiss holidays b day periods =
     record {
       metering = missed (b .metering) day;
       periods = periods;
-      money = finished (closed (b .money) day (netAdded (b .periods) periods)) day;
+      money = finished holidays (closed holidays (b .money) day (netAdded (b .periods) periods)) day;
     }
 
-abbrev pub acceptMeter : Book → ℕ → Metering → Book
-acceptMeter b day metering = record { metering = metering; periods = b .periods; money = finished (b .money) day }
+abbrev pub acceptMeter : List ℕ → Book → ℕ → Metering → Book
+acceptMeter holidays b day metering = record { metering = metering; periods = b .periods; money = finished holidays (b .money) day }
 
-abbrev pub acceptMoney : Book → ℕ → Money → Book
-acceptMoney b day money = record { metering = b .metering; periods = b .periods; money = finished money day }
+abbrev pub acceptMoney : List ℕ → Book → ℕ → Money → Book
+acceptMoney holidays b day money = record { metering = b .metering; periods = b .periods; money = finished holidays money day }
 
-unfoldable pub accept : Book → Call → Book
-accept b (Opening day reading digits) = acceptMeter b day (begun (b .metering) reading digits day)
-accept b (Reading day reading fuel) = acceptReading b (Reading day reading fuel) day reading fuel (λ money. money)
-accept b (Missed day fuel) = acceptMiss b day (withMiss (b .metering) (b .periods) day fuel)
-accept b (Absent day fuel) = acceptMiss b day (withAbsence (b .metering) (b .periods) day fuel)
-accept b (Exchange day old new digits) = acceptMeter b day (exchanged (b .metering) old new digits)
-accept b (Disconnection day reading fuel) = acceptReading b (Disconnection day reading fuel) day reading fuel (λ money. money)
-accept b (Reconnection day reading digits) = acceptMeter b day (begun (b .metering) reading digits (cond (closedOn (b .periods) day) (day + 1) day))
-accept b (Cancellation day reading fuel) = acceptReading b (Cancellation day reading fuel) day reading fuel cancelled
-accept b (Payment day yen) = acceptMoney b day (received (b .money) yen)
-accept b (StoppedCancellation day) = acceptMoney b day (cancelled (interestEntered (b .money) day))
+unfoldable pub accept : List ℕ → Book → Call → Book
+accept holidays b (Opening day reading digits) = acceptMeter holidays b day (begun (b .metering) reading digits day)
+accept holidays b (Reading day reading fuel) = acceptReading holidays b (Reading day reading fuel) day reading fuel (λ money. money)
+accept holidays b (Missed day fuel) = acceptMiss holidays b day (withMiss (b .metering) (b .periods) day fuel)
+accept holidays b (Absent day fuel) = acceptMiss holidays b day (withAbsence (b .metering) (b .periods) day fuel)
+accept holidays b (Exchange day old new digits) = acceptMeter holidays b day (exchanged (b .metering) old new digits)
+accept holidays b (Disconnection day reading fuel) = acceptReading holidays b (Disconnection day reading fuel) day reading fuel (λ money. money)
+accept holidays b (Reconnection day reading digits) = acceptMeter holidays b day (begun (b .metering) reading digits (cond (closedOn (b .periods) day) (day + 1) day))
+accept holidays b (Cancellation day reading fuel) = acceptReading holidays b (Cancellation day reading fuel) day reading fuel cancelled
+accept holidays b (Payment day yen) = acceptMoney holidays b day (received (b .money) yen)
+accept holidays b (StoppedCancellation day) = acceptMoney holidays b day (cancelled (interestEntered holidays (b .money) day))
 
 -- A number other than 0 leaves the book as it was.
-unfoldable pub enter : Book → Call → ℕ → Book
-enter b call number = cond (eqb number 0) (accept b call) b
+unfoldable pub enter : List ℕ → Book → Call → ℕ → Book
+enter holidays b call number = cond (eqb number 0) (accept holidays b call) b

@@ -1,4 +1,4 @@
--- Demand 3: what holds after every list of calls from a new account, declined ones among them.
+-- Demand 3: what holds, by any list of closed days, after every list of calls from a new account, declined ones among them.
 use mathlib.Core.{Path._≡_, Bool.true, List.List, List.[], List._∷_}
 use Prim.Native.Nat.{ℕ, _+_}
 use lib.ListN.{take}
@@ -18,17 +18,17 @@ pub record Run : Type 0 where
 abbrev pub start : Run
 start = record { account = newAccount; book = empty; answers = [] }
 
-abbrev pub step : Run → Call → Run
-step r call =
+abbrev pub step : List ℕ → Run → Call → Run
+step holidays r call =
     record {
-      account = outcome (r .account) call .account;
-      book = enter (r .book) call (outcome (r .account) call .answer .number);
-      answers = outcome (r .account) call .answer ∷ r .answers;
+      account = outcome holidays (r .account) call .account;
+      book = enter holidays (r .book) call (outcome holidays (r .account) call .answer .number);
+      answers = outcome holidays (r .account) call .answer ∷ r .answers;
     }
 
-unfoldable pub run : Run → List Call → Run
-run r [] = r
-run r (call ∷ calls) = run (step r call) calls
+unfoldable pub run : List ℕ → Run → List Call → Run
+run holidays r [] = r
+run holidays r (call ∷ calls) = run holidays (step holidays r call) calls
 
 -- The n volumes of an answer.
 abbrev pub finalVolume : Answer → ℕ
@@ -37,7 +37,7 @@ finalVolume answer = sum (take (answer .volumes .count) (answer .volumes .volume
 abbrev pub unpaidOn : Account → ℕ
 unpaidOn a = unpaidOf (standing (a .ledger) .open-items)
 
-pub record Reconciled (r : Run) : Type 0 where
+pub record Reconciled (holidays : List ℕ) (r : Run) : Type 0 where
   -- final volumes = what the meters advanced under supply up to the latest real closing
   pub volumes : total finalVolume (r .answers) ≡ r .book .metering .advanced
   -- yen received + unpaid + interest held = prices at standing volumes + interest arisen + credit
@@ -46,7 +46,8 @@ pub record Reconciled (r : Run) : Type 0 where
       prices (r .book .periods) + r .book .money .arisen + r .account .ledger .credit
   pub is-whole : whole (r .account) ≡ true
   -- a declined call leaves account and book as they are
-  pub declined : (call : Call) → (outcome (r .account) call .answer .number ≡ 0 → ⊥) → (step r call .account ≡ r .account) × (step r call .book ≡ r .book)
+  pub declined : (call : Call) → (outcome holidays (r .account) call .answer .number ≡ 0 → ⊥)
+      → (step holidays r call .account ≡ r .account) × (step holidays r call .book ≡ r .book)
 
 -- What ran: a call, and the account and answer that its method handed back.
 pub record Done : Type 0 where
@@ -54,18 +55,18 @@ pub record Done : Type 0 where
   pub handed-back : Outcome
 
 -- Calls that ran one after another on the account that the one before handed back. The contract of each method, and of `Account::apply`, is the equation.
-abbrev pub Ran : Account → List Done → Type 0
-Ran a [] = Unit {0}
-Ran a (done ∷ later) = (done .handed-back ≡ outcome a (done .call)) × Ran (done .handed-back .account) later
+abbrev pub Ran : List ℕ → Account → List Done → Type 0
+Ran holidays a [] = Unit {0}
+Ran holidays a (done ∷ later) = (done .handed-back ≡ outcome holidays a (done .call)) × Ran holidays (done .handed-back .account) later
 
 -- The account, the book and the answers of what ran.
-unfoldable pub seen : Run → List Done → Run
-seen r [] = r
-seen r (done ∷ later) =
-    seen
+unfoldable pub seen : List ℕ → Run → List Done → Run
+seen holidays r [] = r
+seen holidays r (done ∷ later) =
+    seen holidays
     (record {
       account = done .handed-back .account;
-      book = enter (r .book) (done .call) (done .handed-back .answer .number);
+      book = enter holidays (r .book) (done .call) (done .handed-back .answer .number);
       answers = done .handed-back .answer ∷ r .answers;
     })
     later

@@ -3,16 +3,17 @@ use Rattle.common.proofs.Words.{_≡_, refl, sym, ap, subst, _∙_, Bool, true,
 use Rattle.common.proofs.Words.{_+_, _≤_, arith, eqb, length, take, drop, length-append, length-replicate, eq-eqb, ne-eqb}
 use Rattle.lists.specs.Pad.{pad}
 use Rattle.lists.proofs.Pad.{length-take-most}
+use Rattle.duedays.specs.DueDays.{listAllowed}
 use Rattle.meter.specs.{declared.Estimates.Estimates, Sharing.standing}
 use Rattle.ledger.specs.Numbers.{queueIn, ledgerOf, lying, Lies, Fit}
 use Rattle.ledger.specs.{declared.Entered.Entered, declared.Entry.Entry, declared.Item.Item, declared.Queue.Queue}
 use Rattle.ledger.specs.{Limits.capacity, Limits.mostEnd, Posting.Standing, Posting.stored, Posting.blank}
-use Rattle.ledger.specs.Entries.{next, EntryBounds, Within}
+use Rattle.ledger.specs.Entries.{next, Enterable, Within}
 use Rattle.lanes.specs.Lanes.{Worked}
 use Rattle.ledger.proofs.Queues.{part-count, next-asked, next-same, Spread, spread-stands, spread-fits, gathered-is}
 use Rattle.intake.specs.{declared.Call.Call, declared.Head.Head, Limits.mostMisses, Refusals.firstRefusal}
 use Rattle.intake.specs.Heads.{HeadBounds, EstimatesFit}
-use Rattle.plan.specs.Plans.{changed, Room, passedPlan, passedVolumes}
+use Rattle.plan.specs.Plans.{changed, Room, quietPlan, passedPlan, passedVolumes}
 use Rattle.plan.specs.{declared.Plan.Plan, declared.Change.Change}
 use Rattle.plan.specs.declared.Change.the-variants.{Kept, Cleared, Added}
 use Rattle.closing.specs.Closing.{storedEstimates}
@@ -23,22 +24,22 @@ use Rattle.account.proofs.Ready.{head-bounds, count-most, whole-within, misses-
 use Rattle.account.proofs.Carrying.{made, goes, outcome-quiet, outcome-asked, outcome-refused}
 use Rattle.account.proofs.{Concluding.outcome-declined, Working.head-counted}
 use Rattle.frames.specs.{declared.Parsed.Parsed, declared.Parsed.the-variants.Frame, declared.Parsed.the-variants.NotAFrame}
-use Rattle.lines.specs.Line.{parsedOutcome}
-use Rattle.feeding.specs.Working.{accountIn, Lain, unasked, Enters, headAfter, answerOf}
+use Rattle.lines.specs.Line.{readOutcome, parsedOutcome}
+use Rattle.feeding.specs.Working.{accountIn, Lain, Planned, unasked, Enters, headAfter, answerOf}
 use Rattle.feeding.specs.Reached.{Reached}
-use Rattle.feeding.proofs.Planning.{Planned, number-is, passes, answer-refused, answer-accepted}
+use Rattle.feeding.proofs.Planning.{number-is, passes, answer-refused, answer-accepted}
 use Rattle.feeding.proofs.Reached.{reached-whole, reached-tidy, reached-estimates}
 
 -- What is known of the parts of a reached account.
-module _ {items : List Item} {q : Queue} {h : Head} {estimates : Estimates} (l : Lain items q h estimates) where
+module _ {holidays : List ℕ} {items : List Item} {q : Queue} {h : Head} {estimates : Estimates} (l : Lain holidays items q h estimates) where
   abbrev account : Account
   account = accountIn items q h estimates
 
   lain-whole : whole account ≡ true
-  lain-whole = reached-whole account (l .reached)
+  lain-whole = reached-whole holidays account (l .reached)
 
   lain-tidy : estimates ≡ storedEstimates (standing estimates)
-  lain-tidy = reached-estimates account (l .reached)
+  lain-tidy = reached-estimates holidays account (l .reached)
 
   pub lain-estimates : EstimatesFit h estimates
   lain-estimates =
@@ -90,8 +91,8 @@ record Left (after : List Item) (q : Queue) (s : Standing) : Type 0 where
   room : q .front + q .count ≤ mostEnd
   few : q .count ≤ capacity
 
-module _ (after : List Item) (r : Entered) (volumes : List ℕ) {items : List Item} {q : Queue} {h : Head} {estimates : Estimates}
-    (l : Lain items q h estimates) where
+module _ (holidays : List ℕ) (after : List Item) (r : Entered) (volumes : List ℕ) {items : List Item} {q : Queue} {h : Head} {estimates : Estimates}
+    (l : Lain holidays items q h estimates) where
   abbrev s : Standing
   s = lying items q
 
@@ -104,7 +105,7 @@ module _ (after : List Item) (r : Entered) (volumes : List ℕ) {items : List It
       subst (λ (x : Entered). Left after (x .queue) s) (sym (e .0))
       (subst (λ xs. Left xs q s) (sym (e .1)) (record { stands = refl; lies = l .lies; room = l .room; few = lain-few l }))
 
-  left-worked : {e : Entry} {x : Standing} → Worked items q e after r → next e s ≡ x → Left after (r .queue) x
+  left-worked : {e : Entry} {x : Standing} → Worked holidays items q e after r → next holidays e s ≡ x → Left after (r .queue) x
   left-worked done is = record { stands = done .stands ∙ is; lies = done .lies; room = done .room; few = done .few }
 
   declined-comes : {p : Plan} {o : Outcome} → (r .number ≡ 0 → ⊥) → o ≡ declined a (r .number) → Left after (r .queue) s
@@ -126,27 +127,27 @@ module _ (after : List Item) (r : Entered) (volumes : List ℕ) {items : List It
       declined-comes (λ z. some (sym number-is ∙ z)) (is ∙ ap (declined a) (sym number-is)) (left-same e)
 
   -- A call that 1 to 11 let pass, by the plan that the definition says.
-  module _ (call : Call) (first : firstRefusal h call ≡ 0)
+  module _ (listed : listAllowed holidays ≡ true) (call : Call) (first : firstRefusal h call ≡ 0)
       (shown : take (passedPlan h (standing estimates) call .count) volumes ≡ passedVolumes h (standing estimates) call) where
     abbrev plan : Plan
     plan = passedPlan h (standing estimates) call
 
     abbrev Done : Type 0
-    Done = Comes after h estimates plan r volumes (outcome a call)
+    Done = Comes after h estimates plan r volumes (outcome holidays a call)
 
     fit : EstimatesFit h estimates
     fit = lain-estimates l
 
     abbrev work : Standing → ℕ → Work
-    work = made h estimates s call first fit
+    work = made holidays h estimates s call first fit
 
-    accepted-comes : {x : Standing} {m : ℕ} → outcome a call ≡ accepted (work x m) → r .interest ≡ m → r .number ≡ 0
+    accepted-comes : {x : Standing} {m : ℕ} → outcome holidays a call ≡ accepted (work x m) → r .interest ≡ m → r .number ≡ 0
         → Left after (r .queue) x → Done
     accepted-comes {x} is interest z left =
         let on = eq-eqb (r .number) 0 z in
         let so = is ∙ ap (λ m. accepted (work x m)) (sym interest) in
         let g =
-        goes h estimates s call first fit volumes shown after (r .queue) x (r .interest) so (left .stands) (left .lies) (left .few)
+        goes holidays h estimates s call first fit volumes shown after (r .queue) x (r .interest) so (left .stands) (left .lies) (left .few)
         in
         record {
           account-is = rw on (g .account-is);
@@ -158,73 +159,86 @@ module _ (after : List Item) (r : Entered) (volumes : List ℕ) {items : List It
 
     quiet-comes : plan .asks ≡ false → (r ≡ unasked 0 q) × (after ≡ items) → Done
     quiet-comes asks e =
-        accepted-comes (outcome-quiet h estimates s call first fit (lain-whole l) (lain-within l) asks)
+        accepted-comes (outcome-quiet holidays h estimates s call first fit listed (lain-whole l) (lain-within l) asks)
         (ap (λ (x : Entered). x .interest) (e .0)) (ap (λ (x : Entered). x .number) (e .0)) (left-same e)
 
-    asked-comes : plan .asks ≡ true → Worked items q (plan .entry) after r → Done
+    asked-comes : plan .asks ≡ true → Worked holidays items q (plan .entry) after r → Done
     asked-comes asks done =
         ⊎-elim
         (λ none. let z = sym (done .number-is) ∙ none in
-        accepted-comes (outcome-asked h estimates s call first fit (lain-whole l) (lain-within l) asks z)
-        (done .interest-is none) none (left-worked done (next-asked (plan .entry) s z)))
+        accepted-comes (outcome-asked holidays h estimates s call first fit listed (lain-whole l) (lain-within l) asks z)
+        (done .interest-is none) none (left-worked done (next-asked holidays (plan .entry) s z)))
         (λ some.
         declined-comes some
-        (outcome-refused h estimates s call first fit (lain-whole l) (lain-within l) asks (r .number) (done .number-is) some)
-        (left-worked done (next-same (plan .entry) s (λ z. some (done .number-is ∙ z)))))
+        (outcome-refused holidays h estimates s call first fit listed (lain-whole l) (lain-within l) asks (r .number) (done .number-is) some)
+        (left-worked done (next-same holidays (plan .entry) s (λ z. some (done .number-is ∙ z)))))
         (zero-or-not (r .number))
 
-    passed-comes : plan .number ≡ 0 → Enters items q plan after r → Done
+    passed-comes : plan .number ≡ 0 → Enters holidays items q plan after r → Done
     passed-comes none enters = go (plan .asks) refl
       where
         go : (b : Bool) → plan .asks ≡ b → Done
         go true asks = asked-comes asks (enters .asked none asks)
         go false asks = quiet-comes asks (enters .quiet none asks)
 
-  -- What comes of a line.
-  pub comes : {p : Plan} {line : Parsed} {before : List ℕ} → Enters items q p after r → Planned h estimates line before p volumes
-      → Comes after h estimates p r volumes (parsedOutcome a line)
-  comes {p = p} {line = Frame call} enters plans =
+  -- A number other than 0 that a plan has and nothing else.
+  refused-comes : {p : Plan} {o : Outcome} (number : ℕ) → (number ≡ 0 → ⊥) → p ≡ quietPlan number h → o ≡ declined a number
+      → Enters holidays items q p after r → Comes after h estimates p r volumes o
+  refused-comes {p} number other is o-is enters =
+      let number-is : p .number ≡ number = ap (λ (x : Plan). x .number) is in
+      let some : p .number ≡ 0 → ⊥ = λ z. other (sym number-is ∙ z) in
+      unasked-comes some (o-is ∙ ap (declined a) (sym number-is)) (enters .declined some)
+
+  -- What comes of a line by a list within its bounds,
+  read-comes : {p : Plan} {line : Parsed} {before : List ℕ} → listAllowed holidays ≡ true → Enters holidays items q p after r
+      → Planned true h estimates line before p volumes → Comes after h estimates p r volumes (readOutcome holidays a line)
+  read-comes {p = p} {line = Frame call} listed enters plans =
       ⊎-elim
       (λ none. let passed = passes plans none in
-      subst (λ (x : Plan). x .number ≡ 0 → Enters items q x after r → Comes after h estimates x r volumes (outcome a call))
-      (sym (passed .plan-is)) (passed-comes call (passed .first) (passed .shown)) none enters)
+      subst (λ (x : Plan). x .number ≡ 0 → Enters holidays items q x after r → Comes after h estimates x r volumes (outcome holidays a call))
+      (sym (passed .plan-is)) (passed-comes listed call (passed .first) (passed .shown)) none enters)
       (λ some. let is = number-is plans ∙ ap (λ (x : Head). firstRefusal x call) (sym (head-is l)) in
-      unasked-comes some (outcome-declined a call (lain-whole l) (p .number) is some) (enters .declined some))
+      unasked-comes some (outcome-declined holidays a call listed (lain-whole l) (p .number) is some) (enters .declined some))
       (zero-or-not (p .number))
-  comes {p = p} {line = NotAFrame} enters plans =
-      let number-40 : p .number ≡ 40 = ap (λ (x : Plan). x .number) (plans .is) in
-      let some : p .number ≡ 0 → ⊥ = λ z. absurd (omega (arith, number-40, z)) in
-      unasked-comes some (ap (declined a) (sym number-40)) (enters .declined some)
+  read-comes {line = NotAFrame} listed enters plans = refused-comes 40 (λ z. absurd (omega (arith, z))) (plans .read refl) refl enters
+
+  -- and by any list.
+  pub comes : {p : Plan} {line : Parsed} {before : List ℕ} {listed : Bool} → listed ≡ listAllowed holidays → Enters holidays items q p after r
+      → Planned listed h estimates line before p volumes → Comes after h estimates p r volumes (parsedOutcome holidays a line)
+  comes {listed = true} is enters plans = rw (← is) (read-comes (sym is) enters plans)
+  comes {listed = false} is enters plans = rw (← is) (refused-comes 14 (λ z. absurd (omega (arith, z))) (plans .unlisted refl) refl enters)
 
 -- A plan that is entered was not refused.
-pub entered-planned : {items after : List Item} {q : Queue} {p : Plan} {r : Entered} → Enters items q p after r → r .number ≡ 0
+pub entered-planned : {holidays : List ℕ} {items after : List Item} {q : Queue} {p : Plan} {r : Entered} → Enters holidays items q p after r → r .number ≡ 0
     → p .number ≡ 0
 entered-planned {p = p} enters z =
     ⊎-elim (λ none. none) (λ some. sym (ap (λ (x : Entered). x .number) (enters .declined some .0)) ∙ z) (zero-or-not (p .number))
 
 -- What a plan says of a line, where it is not refused.
-pub record Said (h : Head) (p : Plan) (volumes : List ℕ) : Type 0 where
-  pub bounds : EntryBounds (p .entry)
+pub record Said (holidays : List ℕ) (h : Head) (p : Plan) (volumes : List ℕ) : Type 0 where
+  pub enterable : Enterable holidays (p .entry)
   pub room : Room (p .change) (h .standing)
   pub count-is : length (take (p .count) volumes) ≡ p .count
 
-pub said : {items : List Item} {q : Queue} {h : Head} {estimates : Estimates} {line : Parsed} {before volumes : List ℕ} {p : Plan}
-    → Lain items q h estimates → Planned h estimates line before p volumes → p .number ≡ 0 → Said h p volumes
-said {h = h} {estimates} {line = Frame call} l plans none =
+pub said : {holidays : List ℕ} {items : List Item} {q : Queue} {h : Head} {estimates : Estimates} {line : Parsed} {before volumes : List ℕ}
+    {p : Plan} {listed : Bool} → listed ≡ listAllowed holidays → Lain holidays items q h estimates → Planned listed h estimates line before p volumes
+    → p .number ≡ 0 → Said holidays h p volumes
+said {h = h} {estimates} {line = Frame call} {listed = true} is l plans none =
     let stand = standing estimates in
     let fit = lain-estimates l in
     let passed = passes plans none in
     let six : length stand ≤ mostMisses = omega (arith, length-take-most (estimates .count) (estimates .periods), fit .few) in
     rw (passed .plan-is) (record {
-      bounds = entry-within h (lain-bounds l) stand six (fit .within) call (passed .first);
+      enterable = record { bounds = entry-within h (lain-bounds l) stand six (fit .within) call (passed .first); listed = sym is };
       room = change-room h stand call (passed .first);
       count-is = ap length (passed .shown) ∙ sym (passed-count h stand call);
     })
-said {line = NotAFrame} l plans none = absurd (omega (arith, ap (λ (x : Plan). x .number) (plans .is), none))
+said {line = NotAFrame} {listed = true} is l plans none = absurd (omega (arith, ap (λ (x : Plan). x .number) (plans .read refl), none))
+said {listed = false} is l plans none = absurd (omega (arith, ap (λ (x : Plan). x .number) (plans .unlisted refl), none))
 
 -- The estimates behind a line. Where as many stand as before, they are the same; else the call was accepted.
-module _ {items after : List Item} {q : Queue} {h : Head} {estimates : Estimates} {p : Plan} {r : Entered} {volumes : List ℕ} {o : Outcome}
-    (l : Lain items q h estimates) (c : Comes after h estimates p r volumes o)
+module _ {holidays : List ℕ} {items after : List Item} {q : Queue} {h : Head} {estimates : Estimates} {p : Plan} {r : Entered} {volumes : List ℕ} {o : Outcome}
+    (l : Lain holidays items q h estimates) (c : Comes after h estimates p r volumes o)
     {head′ : Head} (head-is : head′ ≡ headAfter (r .number) p h) where
   same-changed : (change : Change) → changed change estimates .count ≡ estimates .count → changed change estimates ≡ estimates
   same-changed Kept e = refl
@@ -258,7 +272,7 @@ module _ {after : List Item} {h : Head} {estimates : Estimates} {p : Plan} {r : 
   pub account-turned : accountIn after (r .queue) head′ estimates′ ≡ o .account
   account-turned = (λ i. accountIn after (r .queue) (head-is i) (estimates-are i)) ∙ c .account-is
 
-  pub lain-turned : Reached (o .account) → Lain after (r .queue) head′ estimates′
+  pub lain-turned : {holidays : List ℕ} → Reached holidays (o .account) → Lain holidays after (r .queue) head′ estimates′
   lain-turned reached =
       record {
         lies = c .lies;
@@ -268,18 +282,18 @@ module _ {after : List Item} {h : Head} {estimates : Estimates} {p : Plan} {r : 
       }
 
 -- The parts of an account whose items were spread.
-module _ {a : Account} (reached : Reached a) {items : List Item} (w : Spread (a .ledger) items)
+module _ {holidays : List ℕ} {a : Account} (reached : Reached holidays a) {items : List Item} (w : Spread (a .ledger) items)
     {h : Head} (head-is : h ≡ headOf a) {q : Queue} (queue-is : q ≡ queueIn (a .ledger)) where
   abbrev is-whole : whole a ≡ true
-  is-whole = reached-whole a reached
+  is-whole = reached-whole holidays a reached
 
   pub account-spread : accountIn items q h (a .estimates) ≡ a
   account-spread =
       (λ i. accountIn items (queue-is i) (head-is i) (a .estimates)) ∙
       ap (λ x. accountOf (headOf a) (a .estimates) (stored x)) (spread-stands w) ∙
-      ap (accountOf (headOf a) (a .estimates)) (sym (reached-tidy a reached))
+      ap (accountOf (headOf a) (a .estimates)) (sym (reached-tidy holidays a reached))
 
-  pub lain-spread : Lain items q h (a .estimates)
+  pub lain-spread : Lain holidays items q h (a .estimates)
   lain-spread =
       record {
         lies = rw queue-is (spread-fits w (whole-within a is-whole) .lies);
@@ -289,7 +303,7 @@ module _ {a : Account} (reached : Reached a) {items : List Item} (w : Spread (a 
       }
 
 -- And of one whose items are gathered.
-pub account-gathered : {items gathered : List Item} {q : Queue} {h : Head} {estimates : Estimates} → Lain items q h estimates
+pub account-gathered : {holidays : List ℕ} {items gathered : List Item} {q : Queue} {h : Head} {estimates : Estimates} → Lain holidays items q h estimates
     → gathered ≡ pad capacity blank (take (q .count) (drop (q .front) items))
     → accountOf h estimates (ledgerOf q gathered) ≡ accountIn items q h estimates
 account-gathered {q = q} {h} {estimates} l e =

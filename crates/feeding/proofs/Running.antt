@@ -21,20 +21,20 @@ wentTo h estimates q n taken place =
     record { head = h; estimates = estimates; queue = q; length = n; taken = taken; written = place }
 
 -- What the whole piece makes of a state is what was written, with what the rest makes of the account that the parts stand for.
-pub record Running (input text : List ℕ) (s : State) (items : List Item) (line out : List ℕ) (w : Went) : Type 0 where
+pub record Running (holidays input text : List ℕ) (s : State) (items : List Item) (line out : List ℕ) (w : Went) : Type 0 where
   pub within : w .taken ≤ length input
   pub out-long : length out ≡ length text
   pub placed : w .written ≤ length text
   pub line-long : length line ≡ keptMost
   pub clear : w .length ≡ 0 → line ≡ blankLine
-  pub lain : Lain items (w .queue) (w .head) (w .estimates)
+  pub lain : Lain holidays items (w .queue) (w .head) (w .estimates)
   pub ahead :
-      Ahead (feeding (length text) s input) text (w .taken) (w .written)
-      (fedFrom input (w .taken) (length text - w .written) (stateIn items line w)) out
+      Ahead (feeding holidays (length text) s input) text (w .taken) (w .written)
+      (fedFrom holidays input (w .taken) (length text - w .written) (stateIn items line w)) out
 
-pub running-start : {input text : List ℕ} {items : List Item} {q : Queue} {h : Head} {estimates : Estimates} {begun : ℕ} {line : List ℕ}
-    → Lain items q h estimates → length line ≡ keptMost → (begun ≡ 0 → line ≡ blankLine)
-    → Running input text (state (accountIn items q h estimates) begun line) items line text (wentTo h estimates q begun 0 0)
+pub running-start : {holidays input text : List ℕ} {items : List Item} {q : Queue} {h : Head} {estimates : Estimates} {begun : ℕ} {line : List ℕ}
+    → Lain holidays items q h estimates → length line ≡ keptMost → (begun ≡ 0 → line ≡ blankLine)
+    → Running holidays input text (state (accountIn items q h estimates) begun line) items line text (wentTo h estimates q begun 0 0)
 running-start {text = text} l long clear =
     record {
       within = omega arith;
@@ -47,19 +47,19 @@ running-start {text = text} l long clear =
     }
 
 -- Nothing is left that could be done.
-runs : {input text : List ℕ} {s : State} {items : List Item} {line out : List ℕ} {w : Went}
-    → Ahead (feeding (length text) s input) text (w .taken) (w .written) (nothing (stateIn items line w)) out
-    → w .taken ≤ length input → w .written ≤ length text → Lain items (w .queue) (w .head) (w .estimates)
-    → (w .length ≡ 0 → line ≡ blankLine) → Runs input text s items line out w
+runs : {holidays input text : List ℕ} {s : State} {items : List Item} {line out : List ℕ} {w : Went}
+    → Ahead (feeding holidays (length text) s input) text (w .taken) (w .written) (nothing (stateIn items line w)) out
+    → w .taken ≤ length input → w .written ≤ length text → Lain holidays items (w .queue) (w .head) (w .estimates)
+    → (w .length ≡ 0 → line ≡ blankLine) → Runs holidays input text s items line out w
 runs done within placed l clear =
     record { fed = ahead-done done; text-is = ahead-text done; taken-most = within; written-most = placed; lain = l; clear = clear }
 
-module _ {input text : List ℕ} {s : State} {items : List Item} {line out : List ℕ} {w : Went}
-    (g : Running input text s items line out w) where
+module _ {holidays input text : List ℕ} {s : State} {items : List Item} {line out : List ℕ} {w : Went}
+    (g : Running holidays input text s items line out w) where
   -- The input ended.
-  pub running-ended : length input ≤ w .taken → Runs input text s items line out w
+  pub running-ended : length input ≤ w .taken → Runs holidays input text s items line out w
   running-ended none =
-      let stops = input-ended input (w .taken) (length text - w .written) (stateIn items line w) none in
+      let stops = input-ended holidays input (w .taken) (length text - w .written) (stateIn items line w) none in
       runs (ahead-leads (g .ahead) stops) (g .within) (g .placed) (g .lain) (g .clear)
 
   -- The next line was looked for.
@@ -72,19 +72,19 @@ module _ {input text : List ℕ} {s : State} {items : List Item} {line out : Lis
 
     -- It has not ended.
     pub running-waits : n .ended ≡ false
-        → Runs input text s items line′ out (wentTo (w .head) (w .estimates) (w .queue) (n .length) (n .taken) (w .written))
-    running-waits waits = runs (ahead-leads (g .ahead) (found .waits waits account)) (found .within) (g .placed) (g .lain) (found .clear)
+        → Runs holidays input text s items line′ out (wentTo (w .head) (w .estimates) (w .queue) (n .length) (n .taken) (w .written))
+    running-waits waits = runs (ahead-leads (g .ahead) (found .waits waits holidays account)) (found .within) (g .placed) (g .lain) (found .clear)
 
     -- It ended, and was worked and answered.
     pub running-on : n .ended ≡ true → {after : List Item} {p : Plan} {r : Entered} {volumes : List ℕ}
-        → Comes after (w .head) (w .estimates) p r volumes (parsedOutcome account (parsedBy (n .fields)))
+        → Comes after (w .head) (w .estimates) p r volumes (parsedOutcome holidays account (parsedBy (n .fields)))
         → {h : Head} → h ≡ headAfter (r .number) p (w .head)
         → {estimates : Estimates} → estimates ≡ estimatesAfter (r .number) p (w .estimates)
         → {out′ : List ℕ} → length out′ ≡ length out → out′ ≡ written out (w .written) (answerLine (answerOf r p volumes))
         → {place : ℕ} → place ≡ w .written + length (answerLine (answerOf r p volumes)) → place ≤ w .written + longestAnswer
-        → Running input text s after line′ out′ (wentTo h estimates (r .queue) (n .length) (n .taken) place)
+        → Running holidays input text s after line′ out′ (wentTo h estimates (r .queue) (n .length) (n .taken) place)
     running-on ended c head-is estimates-are long out-is place-is few =
-        let o = parsedOutcome account (parsedBy (n .fields)) in
+        let o = parsedOutcome holidays account (parsedBy (n .fields)) in
         let ends = found .ended ended in
         record {
           within = found .within;
@@ -92,8 +92,8 @@ module _ {input text : List ℕ} {s : State} {items : List Item} {line out : Lis
           placed = omega (arith, few, ends .room-left, g .placed);
           line-long = found .long;
           clear = found .clear;
-          lain = lain-turned c head-is estimates-are (reached-parsed account (parsedBy (n .fields)) (g .lain .reached));
+          lain = lain-turned c head-is estimates-are (reached-parsed holidays account (parsedBy (n .fields)) (g .lain .reached));
           ahead =
-              ahead-turn input (length text) (stateIn items line w) o (g .ahead) (ends .leads account) (c .answer-is) out-is place-is
+              ahead-turn holidays input (length text) (stateIn items line w) o (g .ahead) (ends .leads holidays account) (c .answer-is) out-is place-is
               (λ i. state (account-turned c head-is estimates-are i) (ends .none-begun i) (ends .blank i));
         }

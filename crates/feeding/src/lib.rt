@@ -4,7 +4,7 @@ ghost use mathlib.Core.Bool.{true, false};
 ghost use Prim.Native.Nat.{_+_, _≤_, _<_};
 ghost use lib.ListN.{length, take};
 ghost use Rattle.meter.specs.declared.Estimates.{Estimates};
-ghost use Rattle.ledger.specs.Entries.{EntryBounds};
+ghost use Rattle.ledger.specs.Entries.{Enterable};
 ghost use Rattle.lanes.specs.Lanes.{rows, Long, Workable};
 ghost use Rattle.frames.specs.Digits.{PairTable, written};
 ghost use Rattle.frames.specs.Numbers.{parsedBy, SmallIn};
@@ -12,7 +12,7 @@ ghost use Rattle.answers.specs.Answers.{answerLine, longestAnswer};
 ghost use Rattle.feeding.specs.Reached.{Ready};
 ghost use Rattle.lines.specs.Feeding.{feeding, finishing, fedOf};
 ghost use Rattle.lines.specs.Going.{state};
-ghost use Rattle.feeding.specs.Working.{accountIn, Feedable, LooksBack, AloneIn, LinePlannable, PlanOf, unasked, Enters};
+ghost use Rattle.feeding.specs.Working.{accountIn, Feedable, LooksBack, AloneIn, LinePlannable, Planned, unasked, Enters};
 ghost use Rattle.feeding.specs.Working.{headAfter, answerOf, Runs, handedBack};
 use frames::Fields;
 use intake::Head;
@@ -40,13 +40,14 @@ pub struct Went {
 }
 
 // Takes a piece of the input and fills out from its start. What is not taken for want of room is to be fed again.
-// Every account that a new one leads to is whole, so number 41 is not asked.
-pub fn feed(state: State, input: &[u8], out: &mut [u8]) -> Fed
-    requires { ⌜ Ready state ⌝ }
-    ensures { λ r. ⌜ r ≡ fedOf (feeding (length (now (out .entry))) state (now (input .entry))) ⌝ }
-    ensures { λ _. ⌜ now (out .exit) ≡ written (now (out .entry)) 0 (feeding (length (now (out .entry))) state (now (input .entry)) .output) ⌝ }
+// The list's bounds are looked at once for a piece. Every account that a new one leads to is whole, so number 41 is not asked.
+pub fn feed(state: State, holidays: &[u16], input: &[u8], out: &mut [u8]) -> Fed
+    requires { ⌜ Ready (now holidays) state ⌝ }
+    ensures { λ r. ⌜ r ≡ fedOf (feeding (now (holidays .entry)) (length (now (out .entry))) state (now (input .entry))) ⌝ }
+    ensures { λ _. ⌜ now (out .exit) ≡ written (now (out .entry)) 0
+        (feeding (now (holidays .entry)) (length (now (out .entry))) state (now (input .entry)) .output) ⌝ }
     ensures { λ r. ⌜ (r .taken ≤ length (now (input .entry))) × (r .written ≤ length (now (out .entry))) ⌝ }
-    ensures { λ r. ⌜ Ready (r .state) ⌝ }
+    ensures { λ r. ⌜ Ready (now (holidays .entry)) (r .state) ⌝ }
 {
     let account = state.account;
     let ledger = account.ledger;
@@ -62,6 +63,7 @@ pub fn feed(state: State, input: &[u8], out: &mut [u8]) -> Fed
         ledger::queue_in(ledger),
         state.length,
         &mut line,
+        holidays,
         input,
         out,
         &mut unpaid,
@@ -98,19 +100,21 @@ fn feed_lines(
     queue: Queue,
     begun: usize,
     line: &mut [u8],
+    holidays: &[u16],
     input: &[u8],
     out: &mut [u8],
     unpaid: &mut [u64; LANE_PLACES],
     amount: &mut [u64; LANE_PLACES],
     label: &mut [u64; LANE_PLACES],
 ) -> Went
-    requires { ⌜ Feedable (now unpaid) (now amount) (now label) queue head estimates begun (now line) ⌝ }
+    requires { ⌜ Feedable (now unpaid) (now amount) (now label) (now holidays) queue head estimates begun (now line) ⌝ }
     ensures { λ r. ⌜
-        Runs (now (input .entry)) (now (out .entry))
+        Runs (now (holidays .entry)) (now (input .entry)) (now (out .entry))
         (state (accountIn (rows (now (unpaid .entry)) (now (amount .entry)) (now (label .entry))) queue head estimates) begun (now (line .entry)))
         (rows (now (unpaid .exit)) (now (amount .exit)) (now (label .exit))) (now (line .exit)) (now (out .exit)) r ⌝ }
     ensures { λ _. ⌜ Long (now (unpaid .exit)) (now (amount .exit)) (now (label .exit)) ⌝ }
 {
+    let listed = duedays::is_list_allowed(holidays);
     let values = frames::value_table();
     let pairs = answers::pair_table();
     let mut head = head;
@@ -128,12 +132,12 @@ fn feed_lines(
         }
         let fields = next.fields;
         let mut volumes = [0u32; 7];
-        let plan = if looks_back(head.standing, fields) {
+        let plan = if looks_back(listed, head.standing, fields) {
             plan::plans::plan_over(head, estimates, frames::call_of(fields), &mut volumes)
         } else {
-            plan_line(head, fields, &mut volumes)
+            plan_line(head, listed, fields, &mut volumes)
         };
-        let entered = enter_plan(unpaid, amount, label, queue, plan);
+        let entered = enter_plan(unpaid, amount, label, holidays, queue, plan);
         queue = entered.queue;
         head = head_after(entered.number, plan, head);
         written = put_line(entered, plan, volumes, out, written, &pairs);
@@ -153,12 +157,15 @@ fn feed_lines(
 }
 
 // Whether a line looks at the estimates: so they are handed over only there.
-fn looks_back(standing: usize, fields: Fields) -> bool
+fn looks_back(listed: bool, standing: usize, fields: Fields) -> bool
     requires { ⌜ SmallIn fields ⌝ }
-    ensures { λ r. ⌜ (r ≡ true → LooksBack fields) ⌝ }
-    ensures { λ r. ⌜ (r ≡ false → AloneIn standing fields) ⌝ }
+    ensures { λ r. ⌜ (r ≡ true → LooksBack listed fields) ⌝ }
+    ensures { λ r. ⌜ (r ≡ false → AloneIn listed standing fields) ⌝ }
 {
     if standing == 0 {
+        return false;
+    }
+    if !listed {
         return false;
     }
     if fields.width == 0 {
@@ -167,13 +174,16 @@ fn looks_back(standing: usize, fields: Fields) -> bool
     plan::plans::over(standing, frames::call_of(fields))
 }
 
-// A line planned on the head alone. 40: it is no frame.
-fn plan_line(head: Head, fields: Fields, volumes: &mut [u32; 7]) -> Plan
-    requires { ⌜ LinePlannable head fields (now volumes) ⌝ }
+// A line planned on the head alone. 14: the list breaks its bounds; 40: the line is no frame.
+fn plan_line(head: Head, listed: bool, fields: Fields, volumes: &mut [u32; 7]) -> Plan
+    requires { ⌜ LinePlannable head listed fields (now volumes) ⌝ }
     ensures { λ r. ⌜
         ((estimates : Estimates) → estimates .count ≡ head .standing
-        → PlanOf head estimates (parsedBy fields) (now (volumes .entry)) r (now (volumes .exit))) ⌝ }
+        → Planned listed head estimates (parsedBy fields) (now (volumes .entry)) r (now (volumes .exit))) ⌝ }
 {
+    if !listed {
+        return plan::plans::quiet(14, head);
+    }
     if fields.width == 0 {
         return plan::plans::quiet(40, head);
     }
@@ -185,13 +195,14 @@ fn enter_plan(
     unpaid: &mut [u64; LANE_PLACES],
     amount: &mut [u64; LANE_PLACES],
     label: &mut [u64; LANE_PLACES],
+    holidays: &[u16],
     queue: Queue,
     plan: Plan,
 ) -> Entered
     requires { ⌜ Workable (now unpaid) (now amount) (now label) queue ⌝ }
-    requires { ⌜ (plan .number ≡ 0 → EntryBounds (plan .entry)) ⌝ }
+    requires { ⌜ (plan .number ≡ 0 → Enterable (now holidays) (plan .entry)) ⌝ }
     ensures { λ r. ⌜
-        Enters (rows (now (unpaid .entry)) (now (amount .entry)) (now (label .entry))) queue plan
+        Enters (now (holidays .entry)) (rows (now (unpaid .entry)) (now (amount .entry)) (now (label .entry))) queue plan
         (rows (now (unpaid .exit)) (now (amount .exit)) (now (label .exit))) r ⌝ }
     ensures { λ _. ⌜ Long (now (unpaid .exit)) (now (amount .exit)) (now (label .exit)) ⌝ }
 {
@@ -201,7 +212,7 @@ fn enter_plan(
     if !plan.asks {
         return unasked(0, queue);
     }
-    lanes::enter(unpaid, amount, label, queue, plan.entry)
+    lanes::enter(unpaid, amount, label, holidays, queue, plan.entry)
 }
 
 fn unasked(number: u8, queue: Queue) -> Entered
@@ -269,10 +280,11 @@ fn put_line(
 }
 
 // The end of the input: ends a line that has begun.
-pub fn finish(state: State, out: &mut [u8]) -> Fed
-    requires { ⌜ Ready state ⌝ }
-    ensures { λ r. ⌜ r ≡ fedOf (finishing (length (now (out .entry))) state) ⌝ }
-    ensures { λ _. ⌜ now (out .exit) ≡ written (now (out .entry)) 0 (finishing (length (now (out .entry))) state .output) ⌝ }
+pub fn finish(state: State, holidays: &[u16], out: &mut [u8]) -> Fed
+    requires { ⌜ Ready (now holidays) state ⌝ }
+    ensures { λ r. ⌜ r ≡ fedOf (finishing (now (holidays .entry)) (length (now (out .entry))) state) ⌝ }
+    ensures { λ _. ⌜ now (out .exit) ≡ written (now (out .entry)) 0
+        (finishing (now (holidays .entry)) (length (now (out .entry))) state .output) ⌝ }
     ensures { λ r. ⌜ r .written ≤ length (now (out .entry)) ⌝ }
 {
     if state.length == 0 {
@@ -283,5 +295,5 @@ pub fn finish(state: State, out: &mut [u8]) -> Fed
         };
     }
     let end = [10u8; 1];
-    feed(state, &end, out)
+    feed(state, holidays, &end, out)
 }

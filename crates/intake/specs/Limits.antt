@@ -13,7 +13,7 @@ pub use Rattle.meter.specs.Limits.{mostMisses}
 abbrev pub mostPayment : ℕ
 mostPayment = 99999999
 
--- 2: calls take the days 0 to 36,494.
+-- 2: calls take the days 0 to 36,094.
 abbrev pub dayAllowed : ℕ → Bool
 dayAllowed day = leb day lastCallDay
 

@@ -15,7 +15,7 @@ use crate::limits::payment_allowed;
 use crate::statuses::is_new;
 use crate::statuses::is_supplied;
 use crate::statuses::start_of;
-use ledger::limits::LAST_CALL_DAY;
+use duedays::limits::LAST_CALL_DAY;
 use meter::Meter;
 use meter::dial_advance;
 use meter::within_half;

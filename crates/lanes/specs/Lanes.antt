@@ -53,10 +53,10 @@ pub record Workable (us bs ls : List ℕ) (q : Queue) : Type 0 where
   pub room : q .front + q .count ≤ mostEnd
 
 -- An entry is worked on a queue among items: the queue and the items after it.
-pub record Worked (before : List Item) (q : Queue) (e : Entry) (after : List Item) (r : Entered) : Type 0 where
-  pub number-is : r .number ≡ numberOf (asked e (lying before q))
-  pub stands : lying after (r .queue) ≡ next e (lying before q)
+pub record Worked (holidays : List ℕ) (before : List Item) (q : Queue) (e : Entry) (after : List Item) (r : Entered) : Type 0 where
+  pub number-is : r .number ≡ numberOf (asked holidays e (lying before q))
+  pub stands : lying after (r .queue) ≡ next holidays e (lying before q)
   pub lies : Lies after (r .queue)
-  pub interest-is : r .number ≡ 0 → r .interest ≡ interestPosted e (lying before q)
+  pub interest-is : r .number ≡ 0 → r .interest ≡ interestPosted holidays e (lying before q)
   pub few : r .queue .count ≤ capacity
   pub room : r .queue .front + r .queue .count ≤ mostEnd

@@ -3,10 +3,12 @@ ghost use mathlib.Core.Path.{_≡_};
 ghost use mathlib.Core.List.{_++_};
 ghost use Prim.Native.Nat.{ℕ, _+_, _≤_, _<_};
 ghost use lib.ListN.{getD, set, take, drop};
+ghost use mathlib.Core.Bool.{true};
 ghost use Rattle.lists.specs.Pad.{pad};
+ghost use Rattle.duedays.specs.DueDays.{listAllowed};
 ghost use Rattle.ledger.specs.Limits.{lastCallDay, capacity, lanePlaces};
 ghost use Rattle.ledger.specs.Posting.{standing, coverage, blank};
-ghost use Rattle.ledger.specs.Entries.{EntryBounds, Within, Answered};
+ghost use Rattle.ledger.specs.Entries.{Enterable, Within, Answered};
 ghost use Rattle.ledger.specs.Numbers.{places, posted};
 ghost use Rattle.lanes.specs.Lanes.{kindLabel, labelOf, itemOf, rows, Long, Coverable, Workable, Worked};
 use ledger::BLANK;
@@ -28,11 +30,11 @@ use ledger::numbers::settle_numbers;
 use ledger::queue_in;
 
 // An entry worked where the items are spread.
-pub fn enter_ledger(ledger: Ledger, entry: Entry) -> Posted
+pub fn enter_ledger(ledger: Ledger, holidays: &[u16], entry: Entry) -> Posted
     requires { ⌜ Within (standing ledger) ⌝ }
     requires { ⌜ ledger .count ≤ capacity ⌝ }
-    requires { ⌜ EntryBounds entry ⌝ }
-    ensures { λ r. ⌜ Answered entry (standing ledger) r ⌝ }
+    requires { ⌜ Enterable (now holidays) entry ⌝ }
+    ensures { λ r. ⌜ Answered (now (holidays .entry)) entry (standing ledger) r ⌝ }
 {
     let all = ledger.items;
     let mut unpaid = [0u64; LANE_PLACES];
@@ -40,7 +42,7 @@ pub fn enter_ledger(ledger: Ledger, entry: Entry) -> Posted
     let mut label = [0u64; LANE_PLACES];
     spread(all, &mut unpaid, &mut amount, &mut label);
     let queue = queue_in(ledger);
-    let entered = enter(&mut unpaid, &mut amount, &mut label, queue, entry);
+    let entered = enter(&mut unpaid, &mut amount, &mut label, holidays, queue, entry);
     let after = entered.queue;
     let items = gathered(&unpaid, &amount, &label, after.front, after.count);
     Posted {
@@ -56,12 +58,13 @@ pub fn enter(
     unpaid: &mut [u64; LANE_PLACES],
     amount: &mut [u64; LANE_PLACES],
     label: &mut [u64; LANE_PLACES],
+    holidays: &[u16],
     queue: Queue,
     entry: Entry,
 ) -> Entered
     requires { ⌜ Workable (now unpaid) (now amount) (now label) queue ⌝ }
-    requires { ⌜ EntryBounds entry ⌝ }
-    ensures { λ r. ⌜ Worked (rows (now (unpaid .entry)) (now (amount .entry)) (now (label .entry))) queue entry
+    requires { ⌜ Enterable (now holidays) entry ⌝ }
+    ensures { λ r. ⌜ Worked (now (holidays .entry)) (rows (now (unpaid .entry)) (now (amount .entry)) (now (label .entry))) queue entry
         (rows (now (unpaid .exit)) (now (amount .exit)) (now (label .exit))) r ⌝ }
     ensures { λ _. ⌜ Long (now (unpaid .exit)) (now (amount .exit)) (now (label .exit)) ⌝ }
 {
@@ -91,6 +94,7 @@ pub fn enter(
         unpaid,
         amount,
         label,
+        holidays,
         first,
         Kind::Interest,
         entry.day,
@@ -101,6 +105,7 @@ pub fn enter(
         unpaid,
         amount,
         label,
+        holidays,
         second,
         Kind::Price,
         entry.day,
@@ -111,6 +116,7 @@ pub fn enter(
         unpaid,
         amount,
         label,
+        holidays,
         third,
         Kind::Interest,
         entry.day,
@@ -172,6 +178,7 @@ fn post_item(
     unpaid: &mut [u64; LANE_PLACES],
     amount: &mut [u64; LANE_PLACES],
     label: &mut [u64; LANE_PLACES],
+    holidays: &[u16],
     at: usize,
     kind: Kind,
     day: u16,
@@ -181,16 +188,19 @@ fn post_item(
     requires { ⌜ Long (now unpaid) (now amount) (now label) ⌝ }
     requires { ⌜ at < lanePlaces ⌝ }
     requires { ⌜ day ≤ lastCallDay ⌝ }
+    requires { ⌜ listAllowed (now holidays) ≡ true ⌝ }
     ensures { λ r. ⌜ r ≡ at + places left ⌝ }
     ensures { λ _. ⌜ ((front count : ℕ) → front + count ≡ at
         → take (count + places left) (drop front (rows (now (unpaid .exit)) (now (amount .exit)) (now (label .exit)))) ≡
-        take count (drop front (rows (now (unpaid .entry)) (now (amount .entry)) (now (label .entry)))) ++ posted kind day sum left) ⌝ }
+        take count (drop front (rows (now (unpaid .entry)) (now (amount .entry)) (now (label .entry)))) ++
+        posted (now (holidays .entry)) kind day sum left) ⌝ }
     ensures { λ _. ⌜ Long (now (unpaid .exit)) (now (amount .exit)) (now (label .exit)) ⌝ }
 {
     if left == 0 {
         return at;
     }
-    put(unpaid, amount, label, at, made_item(kind, day, sum, left));
+    let item = made_item(holidays, kind, day, sum, left);
+    put(unpaid, amount, label, at, item);
     at + 1
 }
 

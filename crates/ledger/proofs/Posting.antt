@@ -4,6 +4,7 @@ use Rattle.common.proofs.Words.{add-zero, sub-zero, arith, pos, length, le-leb,
 use Rattle.lists.specs.Every.{Every}
 use Rattle.common.proofs.Cases.{by-zero}
 use Rattle.lists.proofs.Every.{every-append}
+use Rattle.duedays.proofs.DueDays.{due-from}
 use Rattle.ledger.specs.Posting.{Standing, newItem, entered, settledWith, post, closed, heldPosted, Ready}
 use Rattle.ledger.specs.{declared.Kind.Kind, declared.Kind.the-variants.Interest, declared.Kind.the-variants.Price}
 use Rattle.ledger.specs.{declared.Item.Item, Interest.interestOn, Settling.Settlement, Settling.reduced, Settling.settle}
@@ -47,8 +48,8 @@ post-ready day money items s old new =
     }
 
 -- An amount posted with no money.
-abbrev pub postOne : Kind → ℕ → ℕ → Standing → Standing
-postOne kind day amount s = post day 0 (entered kind day amount) s
+abbrev pub postOne : List ℕ → Kind → ℕ → ℕ → Standing → Standing
+postOne holidays kind day amount s = post day 0 (entered holidays kind day amount) s
 
 -- On a standing that has settled what it can, its credit alone goes to what is posted behind.
 abbrev behind : List Item → Settlement → Settlement
@@ -63,56 +64,57 @@ posted day items s ready new =
     (⊎-elim (λ (e : s .credit ≡ 0). rw (e, settle-none day (s .open-items ++ items) all, settle-none day items new))
     (λ (e : s .open-items ≡ []). rw e) (ready .settled))
 
-module _ (kind : Kind) (day amount : ℕ) where
-  pub entered-none : amount ≡ 0 → entered kind day amount ≡ []
+module _ (holidays : List ℕ) (kind : Kind) (day amount : ℕ) where
+  pub entered-none : amount ≡ 0 → entered holidays kind day amount ≡ []
   unfolding entered
   entered-none e = rw e
 
-  pub entered-some : 0 < amount → entered kind day amount ≡ newItem kind day amount ∷ []
+  pub entered-some : 0 < amount → entered holidays kind day amount ≡ newItem holidays kind day amount ∷ []
   unfolding entered
   entered-some h = rw (lt-ltb 0 amount h)
 
   -- nothing, or one item
-  by-entered : (P : List Item → Type 0) → (amount ≡ 0 → P []) → (0 < amount → P (newItem kind day amount ∷ []))
-      → P (entered kind day amount)
+  by-entered : (P : List Item → Type 0) → (amount ≡ 0 → P []) → (0 < amount → P (newItem holidays kind day amount ∷ []))
+      → P (entered holidays kind day amount)
   by-entered P none some = by-zero amount (λ e. rw (entered-none e) (none e)) (λ l. rw (entered-some l) (some l))
 
-  pub entered-owing : Owing (entered kind day amount)
+  pub entered-owing : Owing (entered holidays kind day amount)
   entered-owing = by-entered Owing (λ e. tt) (λ l. (l, tt))
 
-  pub entered-count : length (entered kind day amount) ≤ 1
+  pub entered-count : length (entered holidays kind day amount) ≤ 1
   entered-count = by-entered (λ items. length items ≤ 1) (λ e. omega arith) (λ l. le-refl 1)
 
   -- An item bears no interest on the day it is posted.
-  new-bears-none : interestOn (newItem kind day amount) day ≡ 0
-  new-bears-none = none-in-time (newItem kind day amount) day (omega arith)
+  new-bears-none : interestOn (newItem holidays kind day amount) day ≡ 0
+  new-bears-none = none-in-time (newItem holidays kind day amount) day (omega (arith, due-from holidays day))
 
   module _ (s : Standing) (ready : Ready s) where
     -- an amount that the credit covers is settled at once
     pub post-covered : amount ≤ s .credit
-        → postOne kind day amount s ≡ record { open-items = s .open-items; credit = s .credit - amount; held = s .held }
+        → postOne holidays kind day amount s ≡ record { open-items = s .open-items; credit = s .credit - amount; held = s .held }
     post-covered h =
-        rw (posted day (entered kind day amount) s ready entered-owing, covered, append-nil (s .open-items), add-zero (s .held))
+        rw (posted day (entered holidays kind day amount) s ready entered-owing, covered, append-nil (s .open-items), add-zero (s .held))
       where
         covered :
-            settle day (s .credit) (entered kind day amount) ≡ record { left = s .credit - amount; open-items = []; arisen = 0 }
+            settle day (s .credit) (entered holidays kind day amount) ≡ record { left = s .credit - amount; open-items = []; arisen = 0 }
         covered =
             by-entered (λ items. settle day (s .credit) items ≡ record { left = s .credit - amount; open-items = []; arisen = 0 })
             (λ e. rw (e, sub-zero (s .credit))) (λ l. rw (le-leb amount (s .credit) h, new-bears-none))
 
     -- of any other the credit pays a part, and the rest is one more open item
     pub post-short : s .credit < amount
-        → postOne kind day amount s ≡
-        record { open-items = s .open-items ++ (reduced (newItem kind day amount) (s .credit) ∷ []); credit = 0; held = s .held }
+        → postOne holidays kind day amount s ≡
+        record { open-items = s .open-items ++ (reduced (newItem holidays kind day amount) (s .credit) ∷ []); credit = 0; held = s .held }
     post-short h =
         rw (
-          posted day (entered kind day amount) s ready entered-owing,
+          posted day (entered holidays kind day amount) s ready entered-owing,
           entered-some (omega arith),
           lt-leb amount (s .credit) h,
           add-zero (s .held),
         )
 
 -- A closing with no net posts interest held only.
-pub closed-with-none : (day : ℕ) (s : Standing) → closed day (pos 0) s ≡ heldPosted day s
+pub closed-with-none : (holidays : List ℕ) (day : ℕ) (s : Standing) → closed holidays day (pos 0) s ≡ heldPosted holidays day s
 unfolding closed heldPosted
-closed-with-none day s = rw (entered-none Price day 0 refl, append-nil (entered Interest day (s .held)))
+closed-with-none holidays day s =
+    rw (entered-none holidays Price day 0 refl, append-nil (entered holidays Interest day (s .held)))

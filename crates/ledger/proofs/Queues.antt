@@ -34,11 +34,12 @@ length-less paid (item ∷ items) = refl
 abbrev pub withPosted : Settled → ℕ → ℕ
 withPosted r n = n + places (r .heldleft) + places (r .chargeleft) + places (r .arisenleft)
 
-items-count : (day : ℕ) (r : Settled) (rest : List Item) → length (itemsAfter day r rest) ≡ withPosted r (length rest)
-items-count day r rest = simp (length-append, length-less, length-posted) (omega arith)
+items-count : (holidays : List ℕ) (day : ℕ) (r : Settled) (rest : List Item) → length (itemsAfter holidays day r rest) ≡ withPosted r (length rest)
+items-count holidays day r rest = simp (length-append, length-less, length-posted) (omega arith)
 
 -- An entry at a queue that lies among items, and what its money covers of them.
 pub record Entering : Type 0 where
+  pub holidays : List ℕ
   pub items : List Item
   pub queue : Queue
   pub entry : Entry
@@ -88,7 +89,7 @@ pub record Settling : Type 0 where
 
 module _ (k : Settling) where
   open Settling k using (settled as r, settles)
-  open Entering (k .entering) using (items, queue as q, entry as e, cover, fit as w, room, bounds as b, covers)
+  open Entering (k .entering) using (holidays, items, queue as q, entry as e, cover, fit as w, room, bounds as b, covers)
 
   abbrev s : Standing
   s = lying items q
@@ -108,26 +109,26 @@ module _ (k : Settling) where
 
   -- and what is posted behind them
   abbrev pub held-item : List Item
-  held-item = posted Interest (e .day) (r .held) (r .heldleft)
+  held-item = posted holidays Interest (e .day) (r .held) (r .heldleft)
 
   abbrev pub charge-item : List Item
-  charge-item = posted Price (e .day) (r .charge) (r .chargeleft)
+  charge-item = posted holidays Price (e .day) (r .charge) (r .chargeleft)
 
   abbrev pub arisen-item : List Item
-  arisen-item = posted Interest (e .day) (r .arisen) (r .arisenleft)
+  arisen-item = posted holidays Interest (e .day) (r .arisen) (r .arisenleft)
 
   -- the numbers of the queue are those of what stands
   settled-is : r ≡ settledBy (queueOf (q .front) s) e cover
   settled-is = settles ∙ ap (λ (x : Queue). settledBy x e cover) (numbers-are (w .lies))
 
-  pub number-of : r .number ≡ numberOf (asked e s)
-  number-of = rw settled-is (number-is (asking (k .entering)) (q .front))
+  pub number-of : r .number ≡ numberOf (asked holidays e s)
+  number-of = rw settled-is (number-is holidays (asking (k .entering)) (q .front))
 
-  queue-of : r .queue ≡ queueOf oldest (asked e s)
-  queue-of = rw settled-is (queue-is (asking (k .entering)) (q .front))
+  queue-of : r .queue ≡ queueOf oldest (asked holidays e s)
+  queue-of = rw settled-is (queue-is holidays (asking (k .entering)) (q .front))
 
-  items-of : asked e s .open-items ≡ itemsAfter (e .day) r rest
-  items-of = rw settled-is (asked-known (asking (k .entering)) (q .front) .items-are)
+  items-of : asked holidays e s .open-items ≡ itemsAfter holidays (e .day) r rest
+  items-of = rw settled-is (asked-known holidays (asking (k .entering)) (q .front) .items-are)
 
   -- the oldest item that stays is paid no more than it owes
   pub oldest-within : r .paid ≤ getD items oldest blank .unpaid
@@ -138,9 +139,9 @@ module _ (k : Settling) where
       same l = rw (at-is items (q .front) (q .count) (cover .covered) (rw (part-count (w .lies)) at l))
 
   -- how many items are open behind it
-  count-after : length (asked e s .open-items) ≡ withPosted r staying
+  count-after : length (asked holidays e s .open-items) ≡ withPosted r staying
   count-after =
-      let many = items-count (e .day) r rest in
+      let many = items-count holidays (e .day) r rest in
       omega (arith, ap length items-of, many, length-drop (cover .covered) (s .open-items), part-count (w .lies))
 
   -- the place behind the last item
@@ -149,12 +150,12 @@ module _ (k : Settling) where
 
   -- One law: where the items of an array are those that the numbers say, they are those of the definition.
   abbrev pub After : List Item → Type 0
-  After xs = part oldest (withPosted r staying) xs ≡ itemsAfter (e .day) r rest
+  After xs = part oldest (withPosted r staying) xs ≡ itemsAfter holidays (e .day) r rest
 
-  pub after-stands : (xs : List Item) → After xs → lying xs (r .queue) ≡ asked e s
+  pub after-stands : (xs : List Item) → After xs → lying xs (r .queue) ≡ asked holidays e s
   after-stands xs is =
       let same = rw (← count-after) at is ∙ sym items-of in
-      rw queue-of (λ i. record { open-items = same i; credit = asked e s .credit; held = asked e s .held })
+      rw queue-of (λ i. record { open-items = same i; credit = asked holidays e s .credit; held = asked holidays e s .held })
 
   -- and the queue lies among them
   pub after-lies : (xs : List Item) → length xs ≡ lanePlaces → After xs → Lies xs (r .queue)
@@ -168,15 +169,15 @@ module _ (k : Settling) where
   -- an entry that is accepted leaves no more open than the queue has places
   pub few-after : r .number ≡ 0 → r .queue .count ≤ capacity
   few-after z =
-      rw queue-of (number-passes (length (asked e s .open-items)) (asked e s .credit) (sym number-of ∙ z) .count-most)
+      rw queue-of (number-passes (length (asked holidays e s .open-items)) (asked holidays e s .credit) (sym number-of ∙ z) .count-most)
 
   -- the interest that the numbers post
   abbrev pub interest : ℕ
   interest = r .held + r .arisen
 
-  pub interest-is : interest ≡ interestPosted e s
+  pub interest-is : interest ≡ interestPosted holidays e s
   unfolding settledBy
-  interest-is = rw (settles, taken-known (asking (k .entering)) (q .front) .held-is)
+  interest-is = rw (settles, taken-known holidays (asking (k .entering)) (q .front) .held-is)
 
   pub interest-fits : interest ≤ mostOwed
   unfolding settledBy
@@ -197,12 +198,12 @@ gathered-is {items} {q} w few =
     rw (take-all capacity (part (q .front) (q .count) items) (omega (arith, few, part-count w)), part-count w)
 
 -- What follows an entry that is accepted, and one that is refused.
-module _ (e : Entry) (s : Standing) where
-  pub next-asked : numberOf (asked e s) ≡ 0 → next e s ≡ asked e s
-  next-asked z = rw (eq-eqb (numberOf (asked e s)) 0 z)
+module _ (holidays : List ℕ) (e : Entry) (s : Standing) where
+  pub next-asked : numberOf (asked holidays e s) ≡ 0 → next holidays e s ≡ asked holidays e s
+  next-asked z = rw (eq-eqb (numberOf (asked holidays e s)) 0 z)
 
-  pub next-same : (numberOf (asked e s) ≡ 0 → ⊥) → next e s ≡ s
-  next-same z = rw (ne-eqb (numberOf (asked e s)) 0 z)
+  pub next-same : (numberOf (asked holidays e s) ≡ 0 → ⊥) → next holidays e s ≡ s
+  next-same z = rw (ne-eqb (numberOf (asked holidays e s)) 0 z)
 
 -- What holds while money covers items: of the items, and of the walk over them.
 pub record Lain (items : List Item) (front count day : ℕ) : Type 0 where

@@ -27,31 +27,31 @@ pub record Known (x : Standing) (t : Tally) (items : List Item) (held : ℕ) : T
   pub ready : Ready x
 
 -- Posting an amount.
-module _ (kind : Kind) (day amount : ℕ) (x : Standing) (ready : Ready x) where
+module _ (holidays : List ℕ) (kind : Kind) (day amount : ℕ) (x : Standing) (ready : Ready x) where
   abbrev step : Step
   step = posting (tallyOf x) amount
 
   abbrev PostKnown : Type 0
-  PostKnown = Known (postOne kind day amount x) (step .tally) (x .open-items ++ posted kind day amount (step .part)) (x .held)
+  PostKnown = Known (postOne holidays kind day amount x) (step .tally) (x .open-items ++ posted holidays kind day amount (step .part)) (x .held)
 
   post-known : PostKnown
   unfolding posting posted
   post-known = by-order (x .credit) amount short covered
     where
-      after : Ready (postOne kind day amount x)
-      after = post-ready day 0 (entered kind day amount) x (ready .none-at-zero) (entered-owing kind day amount)
+      after : Ready (postOne holidays kind day amount x)
+      after = post-ready day 0 (entered holidays kind day amount) x (ready .none-at-zero) (entered-owing holidays kind day amount)
 
       covered : amount ≤ x .credit → PostKnown
       covered h =
-          let is = post-covered kind day amount x ready h in
+          let is = post-covered holidays kind day amount x ready h in
           rw (le-leb amount (x .credit) h, is)
           (record { tally-is = refl; items-are = rw (append-nil (x .open-items)); held-is = refl; ready = rw is at after })
 
       short : x .credit < amount → PostKnown
       short h =
-          let is = post-short kind day amount x ready h in
+          let is = post-short holidays kind day amount x ready h in
           let part = amount - x .credit in
-          let one = reduced (newItem kind day amount) (x .credit) ∷ [] in
+          let one = reduced (newItem holidays kind day amount) (x .credit) ∷ [] in
           let owes = total-append (λ (item : Item). item .unpaid) (x .open-items) one in
           rw (lt-leb amount (x .credit) h, lt-ltb 0 part (omega arith), is)
           (record {
@@ -65,11 +65,11 @@ module _ {x : Standing} {t : Tally} {items : List Item} {held : ℕ} (w : Known 
   pub known-held : (more : ℕ) → Known (withHeld more x) t items more
   known-held more = search
 
-  pub known-post : (kind : Kind) (day amount : ℕ)
+  pub known-post : (holidays : List ℕ) (kind : Kind) (day amount : ℕ)
       → let step = posting t amount in
-      Known (postOne kind day amount x) (step .tally) (items ++ posted kind day amount (step .part)) held
-  known-post kind day amount =
-      rw (← w .tally-is, ← w .items-are, ← w .held-is) (post-known kind day amount x (w .ready))
+      Known (postOne holidays kind day amount x) (step .tally) (items ++ posted holidays kind day amount (step .part)) held
+  known-post holidays kind day amount =
+      rw (← w .tally-is, ← w .items-are, ← w .held-is) (post-known holidays kind day amount x (w .ready))
 
 -- An entry at what stands, and what its money covers of it.
 pub record Asking (e : Entry) (s : Standing) (cover : Coverage) : Type 0 where

@@ -1,9 +1,6 @@
 -- The bounds that a ledger keeps to, each once. Money is yen.
 use Prim.Native.Nat.{ℕ}
-
--- The last day that a call can have.
-abbrev pub lastCallDay : ℕ
-lastCallDay = 36494
+pub use Rattle.duedays.specs.Limits.{lastCallDay}
 
 -- At most seventy-two items stand open.
 abbrev pub capacity : ℕ

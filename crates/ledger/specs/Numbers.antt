@@ -95,13 +95,14 @@ lessPaid part (item ∷ items) = reduced item part ∷ items
 unfoldable pub places : ℕ → ℕ
 places unpaid = cond (ltb 0 unpaid) 1 0
 
-unfoldable pub posted : Kind → ℕ → ℕ → ℕ → List Item
-posted kind day amount unpaid = cond (ltb 0 unpaid) (made kind day amount unpaid ∷ []) []
+unfoldable pub posted : List ℕ → Kind → ℕ → ℕ → ℕ → List Item
+posted holidays kind day amount unpaid = cond (ltb 0 unpaid) (made holidays kind day amount unpaid ∷ []) []
 
-abbrev pub itemsAfter : ℕ → Settled → List Item → List Item
-itemsAfter day r rest =
-    ((lessPaid (r .paid) rest ++ posted Interest day (r .held) (r .heldleft)) ++ posted Price day (r .charge) (r .chargeleft)) ++
-    posted Interest day (r .arisen) (r .arisenleft)
+abbrev pub itemsAfter : List ℕ → ℕ → Settled → List Item → List Item
+itemsAfter holidays day r rest =
+    ((lessPaid (r .paid) rest ++ posted holidays Interest day (r .held) (r .heldleft)) ++
+    posted holidays Price day (r .charge) (r .chargeleft)) ++
+    posted holidays Interest day (r .arisen) (r .arisenleft)
 
 -- A queue of the numbers of what stands, from this place on.
 abbrev pub queueOf : ℕ → Standing → Queue

@@ -8,6 +8,7 @@ use lib.Dec.{ltb}
 use lib.IntN.{ℤ, pos, negsuc}
 use lib.ListN.{length, take}
 use Rattle.lists.specs.Pad.{pad}
+use Rattle.duedays.specs.DueDays.{dueDay}
 use Rattle.lists.specs.Every.{Every}
 use Rattle.ledger.specs.declared.Kind.{Kind}
 use Rattle.ledger.specs.declared.Kind.the-variants.{Interest, Price}
@@ -24,20 +25,17 @@ pub record Standing : Type 0 where
   pub credit : ℕ
   pub held : ℕ
 
--- The due day (H).
-abbrev pub dueDay : ℕ → ℕ
-dueDay day = day + 30
+-- An item of a day, with what is unpaid of it; a new one, all of it. Its due day goes by the list of closed days.
+abbrev pub made : List ℕ → Kind → ℕ → ℕ → ℕ → Item
+made holidays kind day amount unpaid =
+    record { amount = amount; unpaid = unpaid; obligation = day; due = dueDay holidays day; kind = kind }
 
--- An item of a day, with what is unpaid of it; a new one, all of it.
-abbrev pub made : Kind → ℕ → ℕ → ℕ → Item
-made kind day amount unpaid = record { amount = amount; unpaid = unpaid; obligation = day; due = dueDay day; kind = kind }
-
-abbrev pub newItem : Kind → ℕ → ℕ → Item
-newItem kind day amount = made kind day amount amount
+abbrev pub newItem : List ℕ → Kind → ℕ → ℕ → Item
+newItem holidays kind day amount = made holidays kind day amount amount
 
 -- An amount above zero is posted as an item.
-unfoldable pub entered : Kind → ℕ → ℕ → List Item
-entered kind day amount = cond (ltb 0 amount) (newItem kind day amount ∷ []) []
+unfoldable pub entered : List ℕ → Kind → ℕ → ℕ → List Item
+entered holidays kind day amount = cond (ltb 0 amount) (newItem holidays kind day amount ∷ []) []
 
 -- 20(1): the net of a closing by its sign. Above zero it is charged, below zero it is credited.
 abbrev pub chargeOf : ℤ → ℕ
@@ -59,16 +57,17 @@ abbrev pub noneHeld : Standing → Standing
 noneHeld s = record { open-items = s .open-items; credit = s .credit; held = 0 }
 
 -- A closing posts interest held, if any, then a net above zero; a net below zero adds to credit.
-unfoldable pub closed : ℕ → ℤ → Standing → Standing
-closed day net s = post day (creditOf net) (entered Interest day (s .held) ++ entered Price day (chargeOf net)) (noneHeld s)
+unfoldable pub closed : List ℕ → ℕ → ℤ → Standing → Standing
+closed holidays day net s =
+    post day (creditOf net) (entered holidays Interest day (s .held) ++ entered holidays Price day (chargeOf net)) (noneHeld s)
 
 -- A payment settles the oldest items first.
 unfoldable pub paid : ℕ → ℕ → Standing → Standing
 paid day yen s = post day yen [] s
 
 -- Interest held is posted by itself: by 0a, and on a cancelled account by each call that brings some, as one last item of the call's total.
-unfoldable pub heldPosted : ℕ → Standing → Standing
-heldPosted day s = post day 0 (entered Interest day (s .held)) (noneHeld s)
+unfoldable pub heldPosted : List ℕ → ℕ → Standing → Standing
+heldPosted holidays day s = post day 0 (entered holidays Interest day (s .held)) (noneHeld s)
 
 -- What a place of the array without an item holds.
 abbrev pub blank : Item

@@ -3,6 +3,7 @@ ghost use mathlib.Core.Path.{_≡_};
 ghost use mathlib.Core.Bool.{true};
 ghost use mathlib.Core.List.{[]};
 ghost use Prim.Native.Nat.{_≤_};
+ghost use Rattle.duedays.specs.DueDays.{listAllowed};
 ghost use Rattle.ledger.specs.Interest.{isPrice, body, interestOn};
 ghost use Rattle.ledger.specs.Settling.{unpaidOf};
 ghost use Rattle.ledger.specs.Posting.{made, stored, standing, chargeOf, creditOf, OpenBounds, NetBounds};
@@ -13,6 +14,7 @@ pub mod limits;
 pub mod numbers;
 
 use crate::limits::CAPACITY;
+use duedays::due_day;
 
 pub enum Kind {
     Interest,
@@ -74,9 +76,6 @@ pub struct Posted {
     pub interest: u64,
     pub unpaid: u64,
 }
-
-// Days from obligation to due (H).
-const TERM: u16 = 30;
 
 pub const BLANK: Item = Item {
     amount: 0,
@@ -142,15 +141,16 @@ pub fn ledger_of(queue: Queue, items: [Item; CAPACITY]) -> Ledger
 }
 
 // An item of a day, with what is unpaid of it.
-pub fn made_item(kind: Kind, day: u16, amount: u64, unpaid: u64) -> Item
+pub fn made_item(holidays: &[u16], kind: Kind, day: u16, amount: u64, unpaid: u64) -> Item
+    requires { ⌜ listAllowed (now holidays) ≡ true ⌝ }
     requires { ⌜ day ≤ lastCallDay ⌝ }
-    ensures { λ r. ⌜ r ≡ made kind day amount unpaid ⌝ }
+    ensures { λ r. ⌜ r ≡ made (now (holidays .entry)) kind day amount unpaid ⌝ }
 {
     Item {
         amount,
         unpaid,
         obligation: day,
-        due: day + TERM,
+        due: due_day(holidays, day),
         kind,
     }
 }

@@ -1,7 +1,5 @@
 // The bounds of specs/Limits.
 
-pub const LAST_CALL_DAY: u16 = 36_494;
-
 pub const CAPACITY: usize = 72;
 
 pub const MOST_PRICE: u64 = 1_000_000_000;

@@ -9,18 +9,18 @@ use Rattle.lines.specs.Feeding.{keptMost, kept, lineEnds, ended, Feeding
 use Rattle.lines.specs.{declared.State.State, Going.state, Going.Leads, Going.writing}
 
 -- Of the input's next byte, the three ways.
-module _ (room : ℕ) (s : State) (c : ℕ) (cs : List ℕ) where
+module _ (holidays : List ℕ) (room : ℕ) (s : State) (c : ℕ) (cs : List ℕ) where
   pub feed-ends : c ≡ lineFeed → longestAnswer ≤ room
-      → let answer = answerLine (lineEnds s .answer) in
-      feeding room s (c ∷ cs) ≡ behind answer (feeding (room - length answer) (ended s) cs)
+      → let answer = answerLine (lineEnds holidays s .answer) in
+      feeding holidays room s (c ∷ cs) ≡ behind answer (feeding holidays (room - length answer) (ended holidays s) cs)
   unfolding feeding
   feed-ends e h = rw (eq-eqb c lineFeed e, le-ltb room longestAnswer h) refl
 
-  pub feed-stops : c ≡ lineFeed → room < longestAnswer → feeding room s (c ∷ cs) ≡ nothing s
+  pub feed-stops : c ≡ lineFeed → room < longestAnswer → feeding holidays room s (c ∷ cs) ≡ nothing s
   unfolding feeding
   feed-stops e h = rw (eq-eqb c lineFeed e, lt-ltb room longestAnswer h) refl
 
-  pub feed-keeps : (c ≡ lineFeed → ⊥) → feeding room s (c ∷ cs) ≡ behind [] (feeding room (kept s c) cs)
+  pub feed-keeps : (c ≡ lineFeed → ⊥) → feeding holidays room s (c ∷ cs) ≡ behind [] (feeding holidays room (kept s c) cs)
   unfolding feeding
   feed-keeps n = rw (ne-eqb c lineFeed n) refl
 
@@ -79,20 +79,20 @@ module _ {whole : Feeding} {text : List ℕ} {taken place : ℕ} {out : List ℕ
     ahead-text = sym (a .same-text)
 
 -- At the end of the input.
-pub finish-none : (room : ℕ) (s : State) → s .length ≡ 0 → finishing room s ≡ nothing s
+pub finish-none : (holidays : List ℕ) (room : ℕ) (s : State) → s .length ≡ 0 → finishing holidays room s ≡ nothing s
 unfolding finishing
-finish-none room s e = rw (eq-eqb (s .length) 0 e) refl
+finish-none holidays room s e = rw (eq-eqb (s .length) 0 e) refl
 
-pub finish-line : (room : ℕ) (s : State) → (s .length ≡ 0 → ⊥) → finishing room s ≡ feeding room s (lineFeed ∷ [])
+pub finish-line : (holidays : List ℕ) (room : ℕ) (s : State) → (s .length ≡ 0 → ⊥) → finishing holidays room s ≡ feeding holidays room s (lineFeed ∷ [])
 unfolding finishing
-finish-line room s n = rw (ne-eqb (s .length) 0 n) refl
+finish-line holidays room s n = rw (ne-eqb (s .length) 0 n) refl
 
 -- Where there is room for a line, feeding goes on.
-pub taken-some : (room : ℕ) (s : State) (bytes : List ℕ) → longestAnswer ≤ room → 1 ≤ length bytes → 1 ≤ feeding room s bytes .taken
+pub taken-some : (holidays : List ℕ) (room : ℕ) (s : State) (bytes : List ℕ) → longestAnswer ≤ room → 1 ≤ length bytes → 1 ≤ feeding holidays room s bytes .taken
 unfolding feeding
-taken-some room s [] h k = absurd (not-suc-le-zero k)
-taken-some room s (c ∷ cs) h k = go (eqb c lineFeed) refl
+taken-some holidays room s [] h k = absurd (not-suc-le-zero k)
+taken-some holidays room s (c ∷ cs) h k = go (eqb c lineFeed) refl
   where
-    go : (b : Bool) → eqb c lineFeed ≡ b → 1 ≤ feeding room s (c ∷ cs) .taken
+    go : (b : Bool) → eqb c lineFeed ≡ b → 1 ≤ feeding holidays room s (c ∷ cs) .taken
     go true e = rw (e, le-ltb room longestAnswer h) (omega arith)
     go false e = rw e (omega arith)

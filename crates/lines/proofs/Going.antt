@@ -30,8 +30,8 @@ leads-on l m =
     }
 
 -- By what the next byte is.
-module _ (input : List ℕ) (at room : ℕ) (s : State) where
-  pub input-ended : length input ≤ at → Leads at at (fedFrom input at room s) (nothing s)
+module _ (holidays input : List ℕ) (at room : ℕ) (s : State) where
+  pub input-ended : length input ≤ at → Leads at at (fedFrom holidays input at room s) (nothing s)
   unfolding feeding
   input-ended h = rw (drop-of-length-le input h) leads-nowhere
 
@@ -39,24 +39,24 @@ module _ (input : List ℕ) (at room : ℕ) (s : State) where
     abbrev byte : ℕ
     byte = getD input at 0
 
-    next-byte : fedFrom input at room s ≡ feeding room s (byte ∷ drop (suc at) input)
-    next-byte = ap (feeding room s) (drop-cons input at 0 more)
+    next-byte : fedFrom holidays input at room s ≡ feeding holidays room s (byte ∷ drop (suc at) input)
+    next-byte = ap (feeding holidays room s) (drop-cons input at 0 more)
 
     byte-kept : (byte ≡ lineFeed → ⊥) → {s′ : State} → kept s byte ≡ s′
-        → Leads at (at + 1) (fedFrom input at room s) (fedFrom input (at + 1) room s′)
+        → Leads at (at + 1) (fedFrom holidays input at room s) (fedFrom holidays input (at + 1) room s′)
     byte-kept n e =
         let rest = drop (suc at) input in
-        let is = next-byte ∙ feed-keeps room s byte rest n ∙ ap (λ x. behind [] (feeding room x rest)) e in
+        let is = next-byte ∙ feed-keeps holidays room s byte rest n ∙ ap (λ x. behind [] (feeding holidays room x rest)) e in
         rw (is, add-one at) (record { same-state = refl; same-output = refl; same-taken = omega arith })
 
     line-ends : byte ≡ lineFeed → longestAnswer ≤ room → {p : Parsed} → parsed (lineOf s) ≡ p
-        → Leads at (at + 1) (fedFrom input at room s) (fedBehind input (at + 1) room (parsedOutcome (s .account) p))
+        → Leads at (at + 1) (fedFrom holidays input at room s) (fedBehind holidays input (at + 1) room (parsedOutcome holidays (s .account) p))
     line-ends e r is =
-        let ends = next-byte ∙ feed-ends room s byte (drop (suc at) input) e r in
+        let ends = next-byte ∙ feed-ends holidays room s byte (drop (suc at) input) e r in
         rw (ends, ← is, add-one at) (record { same-state = refl; same-output = refl; same-taken = omega arith })
 
-    line-waits : byte ≡ lineFeed → room < longestAnswer → Leads at at (fedFrom input at room s) (nothing s)
-    line-waits e r = rw (next-byte ∙ feed-stops room s byte (drop (suc at) input) e r) leads-nowhere
+    line-waits : byte ≡ lineFeed → room < longestAnswer → Leads at at (fedFrom holidays input at room s) (nothing s)
+    line-waits e r = rw (next-byte ∙ feed-stops holidays room s byte (drop (suc at) input) e r) leads-nowhere
 
 -- A line kept so far: what the input makes from the line's start on is what it makes from `taken` on, of the characters kept.
 pub record Keeping (input : List ℕ) (from begun : ℕ) (line₀ : List ℕ) (taken n : ℕ) (line : List ℕ) : Type 0 where
@@ -64,13 +64,13 @@ pub record Keeping (input : List ℕ) (from begun : ℕ) (line₀ : List ℕ) (t
   pub within : taken ≤ length input
   pub long : length line ≡ keptMost
   pub none : n ≡ 0 → (begun ≡ 0) × (line ≡ line₀)
-  pub leads : (a : Account) (room : ℕ)
-      → Leads from taken (fedFrom input from room (state a begun line₀)) (fedFrom input taken room (state a n line))
+  pub leads : (holidays : List ℕ) (a : Account) (room : ℕ)
+      → Leads from taken (fedFrom holidays input from room (state a begun line₀)) (fedFrom holidays input taken room (state a n line))
 
 pub keeping-start : {input : List ℕ} {from begun : ℕ} {line₀ : List ℕ} → from ≤ length input → length line₀ ≡ keptMost
     → Keeping input from begun line₀ from begun line₀
 keeping-start within long =
-    record { onward = omega arith; within = within; long = long; none = λ z. (z, refl); leads = λ a room. leads-nowhere }
+    record { onward = omega arith; within = within; long = long; none = λ z. (z, refl); leads = λ holidays a room. leads-nowhere }
 
 module _ {input : List ℕ} {from begun : ℕ} {line₀ : List ℕ} {taken n : ℕ} {line : List ℕ}
     (k : Keeping input from begun line₀ taken n line) where
@@ -81,9 +81,9 @@ module _ {input : List ℕ} {from begun : ℕ} {line₀ : List ℕ} {taken n : �
   keeping-ends ends = record { onward = k .onward; within = k .within; ends = ends; long = k .long; none = k .none; leads = k .leads }
 
   module _ (more : taken < length input) (other : next ≡ lineFeed → ⊥) where
-    character : (a : Account) (room : ℕ) {s′ : State} → kept (state a n line) next ≡ s′
-        → Leads from (taken + 1) (fedFrom input from room (state a begun line₀)) (fedFrom input (taken + 1) room s′)
-    character a room e = leads-on (k .leads a room) (byte-kept input taken room (state a n line) more other e)
+    character : (holidays : List ℕ) (a : Account) (room : ℕ) {s′ : State} → kept (state a n line) next ≡ s′
+        → Leads from (taken + 1) (fedFrom holidays input from room (state a begun line₀)) (fedFrom holidays input (taken + 1) room s′)
+    character holidays a room e = leads-on (k .leads holidays a room) (byte-kept holidays input taken room (state a n line) more other e)
 
     pub keeping-more : n < keptMost → Keeping input from begun line₀ (taken + 1) (n + 1) (set line n next)
     keeping-more few =
@@ -92,7 +92,7 @@ module _ {input : List ℕ} {from begun : ℕ} {line₀ : List ℕ} {taken n : �
           within = omega arith;
           long = length-set line n next ∙ k .long;
           none = λ z. absurd (omega (arith, z));
-          leads = λ a room. character a room (kept-within a n line next few);
+          leads = λ holidays a room. character holidays a room (kept-within a n line next few);
         }
 
     pub keeping-full : keptMost ≤ n → Keeping input from begun line₀ (taken + 1) n line
@@ -102,7 +102,7 @@ module _ {input : List ℕ} {from begun : ℕ} {line₀ : List ℕ} {taken n : �
           within = omega arith;
           long = k .long;
           none = k .none;
-          leads = λ a room. character a room (kept-full a n line next full);
+          leads = λ holidays a room. character holidays a room (kept-full a n line next full);
         }
 
 digit-no-end : (c : ℕ) → isDigit c ≡ true → c ≡ lineFeed → ⊥
@@ -165,18 +165,18 @@ module _ {input : List ℕ} {at : ℕ} {call : Call} {width : ℕ} (l : Lies inp
   front-kept (suc k) h = front-more k h (front-kept k (omega arith))
 
   -- A whole frame taken where it lies is what its bytes and LF, fed one by one, make.
-  frame-taken : (room : ℕ) (a : Account) → longestAnswer ≤ room
-      → Leads at (at + width + 1) (fedFrom input at room (between a)) (fedBehind input (at + width + 1) room (parsedOutcome a (Frame call)))
-  frame-taken room a left =
+  frame-taken : (room : ℕ) (holidays : List ℕ) (a : Account) → longestAnswer ≤ room
+      → Leads at (at + width + 1) (fedFrom holidays input at room (between a)) (fedBehind holidays input (at + width + 1) room (parsedOutcome holidays a (Frame call)))
+  frame-taken room holidays a left =
       let f = front-kept width (omega arith) in
-      leads-on (f .keeping .leads a room)
-      (line-ends input (at + width) room (state a width (f .line)) (l .within) (l .ends) left (ap parsed (f .same) ∙ l .frame))
+      leads-on (f .keeping .leads holidays a room)
+      (line-ends holidays input (at + width) room (state a width (f .line)) (l .within) (l .ends) left (ap parsed (f .same) ∙ l .frame))
 
 -- A line that ended leaves none begun, and no trace.
 found-ended : {input : List ℕ} {from room begun taken : ℕ} {line after : List ℕ} {fields : Fields}
     → after ≡ blankLine → taken ≤ length input → from < taken → longestAnswer ≤ room → SmallIn fields
-    → ((a : Account)
-    → Leads from taken (fedFrom input from room (state a begun line)) (fedBehind input taken room (parsedOutcome a (parsedBy fields))))
+    → ((holidays : List ℕ) (a : Account)
+    → Leads from taken (fedFrom holidays input from room (state a begun line)) (fedBehind holidays input taken room (parsedOutcome holidays a (parsedBy fields))))
     → Found input from room begun line after (endedAt fields taken)
 found-ended blank within onward left small leads =
     record {
@@ -193,46 +193,46 @@ module _ {input : List ℕ} {from begun : ℕ} {line kept : List ℕ} {r : Kept}
   stands a = state a (r .length) kept
 
   module _ (clear : begun ≡ 0 → line ≡ blankLine) where
-    found-waiting : ((a : Account) → Leads (r .taken) (r .taken) (fedFrom input (r .taken) room (stands a)) (nothing (stands a)))
+    found-waiting : ((holidays : List ℕ) (a : Account) → Leads (r .taken) (r .taken) (fedFrom holidays input (r .taken) room (stands a)) (nothing (stands a)))
         → Found input from room begun line kept (waitingAt (r .taken) (r .length))
     found-waiting stops =
         record {
           within = k .within;
           long = k .long;
           ended = λ e. absurd (false≢true e);
-          waits = λ e a. leads-on (k .leads a room) (stops a);
+          waits = λ e holidays a. leads-on (k .leads holidays a room) (stops holidays a);
           clear = λ z. k .none z .1 ∙ clear (k .none z .0);
         }
 
     pub found-no-end : length input ≤ r .taken → Found input from room begun line kept (waitingAt (r .taken) (r .length))
-    found-no-end none = found-waiting (λ a. input-ended input (r .taken) room (stands a) none)
+    found-no-end none = found-waiting (λ holidays a. input-ended holidays input (r .taken) room (stands a) none)
 
     pub found-no-room : r .taken < length input → room < longestAnswer
         → Found input from room begun line kept (waitingAt (r .taken) (r .length))
-    found-no-room more short = found-waiting (λ a. line-waits input (r .taken) room (stands a) more (k .ends more) short)
+    found-no-room more short = found-waiting (λ holidays a. line-waits holidays input (r .taken) room (stands a) more (k .ends more) short)
 
   pub found-kept : r .taken < length input → longestAnswer ≤ room → {fields : Fields} → ReadIn (take (r .length) kept) fields
       → {after : List ℕ} → after ≡ blankLine → Found input from room begun line after (endedAt fields (r .taken + 1))
   found-kept more left read blank =
       found-ended blank (omega arith) (omega (arith, k .onward)) left (read .small)
-      (λ a. leads-on (k .leads a room) (line-ends input (r .taken) room (stands a) more (k .ends more) left (read .is)))
+      (λ holidays a. leads-on (k .leads holidays a room) (line-ends holidays input (r .taken) room (stands a) more (k .ends more) left (read .is)))
 
 pub found-frame : {input : List ℕ} {from room begun : ℕ} {line : List ℕ} {fields : Fields}
     → begun ≡ 0 → line ≡ blankLine → (fields .width ≡ 0 → ⊥) → ReadAt input from fields → longestAnswer ≤ room
     → Found input from room begun line line (endedAt fields (from + fields .width + 1))
 found-frame {room = room} {fields = fields} none blank some read left =
     found-ended blank (omega (arith, read .lies .within)) (omega arith) left (read .small)
-    (λ a. rw (none, blank, parsed-frame fields some) (frame-taken (read .lies) room a left))
+    (λ holidays a. rw (none, blank, parsed-frame fields some) (frame-taken (read .lies) room holidays a left))
 
 -- A feeding under way goes on behind a line whose answer was written.
-pub ahead-turn : (input : List ℕ) (size : ℕ) (s : State) (o : Outcome)
+pub ahead-turn : (holidays input : List ℕ) (size : ℕ) (s : State) (o : Outcome)
     {whole : Feeding} {text : List ℕ} {from taken place : ℕ} {out : List ℕ}
-    → Ahead whole text from place (fedFrom input from (size - place) s) out
-    → Leads from taken (fedFrom input from (size - place) s) (fedBehind input taken (size - place) o)
+    → Ahead whole text from place (fedFrom holidays input from (size - place) s) out
+    → Leads from taken (fedFrom holidays input from (size - place) s) (fedBehind holidays input taken (size - place) o)
     → {answer : Answer} → answer ≡ o .answer → {out′ : List ℕ} → out′ ≡ written out place (answerLine answer)
     → {place′ : ℕ} → place′ ≡ place + length (answerLine answer) → {s′ : State} → s′ ≡ between (o .account)
-    → Ahead whole text taken place′ (fedFrom input taken (size - place′) s′) out′
-ahead-turn input size s o {place = place} {out} a l is e f g =
+    → Ahead whole text taken place′ (fedFrom holidays input taken (size - place′) s′) out′
+ahead-turn holidays input size s o {place = place} {out} a l is e f g =
     let line = answerLine (o .answer) in
     let at = f ∙ ap (λ (x : Answer). place + length (answerLine x)) is in
     let text-is = e ∙ ap (λ (x : Answer). written out place (answerLine x)) is in

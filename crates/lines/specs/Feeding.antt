@@ -30,12 +30,12 @@ lineOf s = take (s .length) (s .line)
 abbrev pub kept : State → ℕ → State
 kept s c = cond (ltb (s .length) keptMost) (record { account = s .account; length = suc (s .length); line = set (s .line) (s .length) c }) s
 
-abbrev pub lineEnds : State → Outcome
-lineEnds s = lineOutcome (s .account) (lineOf s)
+abbrev pub lineEnds : List ℕ → State → Outcome
+lineEnds holidays s = lineOutcome holidays (s .account) (lineOf s)
 
 -- A line that has ended leaves no trace.
-abbrev pub ended : State → State
-ended s = between (lineEnds s .account)
+abbrev pub ended : List ℕ → State → State
+ended holidays s = between (lineEnds holidays s .account)
 
 -- What a piece makes: the state behind it, what is written, how many bytes of the piece were taken.
 pub record Feeding : Type 0 where
@@ -50,17 +50,18 @@ abbrev pub behind : List ℕ → Feeding → Feeding
 behind xs f = record { state = f .state; output = xs ++ f .output; taken = suc (f .taken) }
 
 -- Byte by byte; before a line's end that the room left might not hold, it stops.
-unfoldable pub feeding : ℕ → State → List ℕ → Feeding
-feeding room s [] = nothing s
-feeding room s (c ∷ cs) =
+unfoldable pub feeding : List ℕ → ℕ → State → List ℕ → Feeding
+feeding holidays room s [] = nothing s
+feeding holidays room s (c ∷ cs) =
     cond (eqb c lineFeed)
     (cond (ltb room longestAnswer) (nothing s)
-    (behind (answerLine (lineEnds s .answer)) (feeding (room - length (answerLine (lineEnds s .answer))) (ended s) cs)))
-    (behind [] (feeding room (kept s c) cs))
+    (behind (answerLine (lineEnds holidays s .answer))
+    (feeding holidays (room - length (answerLine (lineEnds holidays s .answer))) (ended holidays s) cs)))
+    (behind [] (feeding holidays room (kept s c) cs))
 
 abbrev pub fedOf : Feeding → Fed
 fedOf f = record { state = f .state; taken = f .taken; written = length (f .output) }
 
 -- The end of the input ends a line that has begun, as an LF would.
-unfoldable pub finishing : ℕ → State → Feeding
-finishing room s = cond (eqb (s .length) 0) (nothing s) (feeding room s (lineFeed ∷ []))
+unfoldable pub finishing : List ℕ → ℕ → State → Feeding
+finishing holidays room s = cond (eqb (s .length) 0) (nothing s) (feeding holidays room s (lineFeed ∷ []))

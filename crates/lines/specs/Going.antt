@@ -22,13 +22,13 @@ abbrev pub writing : List ℕ → Feeding → Feeding
 writing text f = record { state = f .state; output = text ++ f .output; taken = f .taken }
 
 -- What an input makes from a place on, of an account and what is kept of a line.
-abbrev pub fedFrom : List ℕ → ℕ → ℕ → State → Feeding
-fedFrom input from room s = feeding room s (drop from input)
+abbrev pub fedFrom : List ℕ → List ℕ → ℕ → ℕ → State → Feeding
+fedFrom holidays input from room s = feeding holidays room s (drop from input)
 
 -- What it makes behind a line that is read as this: the answer, then what is made between lines.
-abbrev pub fedBehind : List ℕ → ℕ → ℕ → Outcome → Feeding
-fedBehind input taken room o =
-    writing (answerLine (o .answer)) (fedFrom input taken (room - length (answerLine (o .answer))) (between (o .account)))
+abbrev pub fedBehind : List ℕ → List ℕ → ℕ → ℕ → Outcome → Feeding
+fedBehind holidays input taken room o =
+    writing (answerLine (o .answer)) (fedFrom holidays input taken (room - length (answerLine (o .answer))) (between (o .account)))
 
 -- What the next line is looked for with: an input that goes on, the table, and a line kept so far that is blank where none has begun.
 pub record Seeking (input values : List ℕ) (from : ℕ) (line : List ℕ) (begun : ℕ) : Type 0 where
@@ -44,26 +44,28 @@ pub record Keeps (input : List ℕ) (from begun : ℕ) (line kept : List ℕ) (r
   pub ends : r .taken < length input → getD input (r .taken) 0 ≡ lineFeed
   pub long : length kept ≡ keptMost
   pub none : r .length ≡ 0 → (begun ≡ 0) × (kept ≡ line)
-  pub leads : (a : Account) (room : ℕ)
-      → Leads from (r .taken) (fedFrom input from room (state a begun line)) (fedFrom input (r .taken) room (state a (r .length) kept))
+  pub leads : (holidays : List ℕ) (a : Account) (room : ℕ)
+      → Leads from (r .taken) (fedFrom holidays input from room (state a begun line))
+      (fedFrom holidays input (r .taken) room (state a (r .length) kept))
 
--- A line that ended: there is room for its answer, and what it comes to is what its frame's call comes to, or 40.
+-- A line that ended: there is room for its answer, and what it comes to is what its frame's call comes to, or 40, or 14.
 pub record Ends (input : List ℕ) (from room begun : ℕ) (line kept : List ℕ) (r : Next) : Type 0 where
   pub room-left : longestAnswer ≤ room
   pub onward : from < r .taken
   pub none-begun : r .length ≡ 0
   pub blank : kept ≡ blankLine
   pub small : SmallIn (r .fields)
-  pub leads : (a : Account)
-      → Leads from (r .taken) (fedFrom input from room (state a begun line)) (fedBehind input (r .taken) room (parsedOutcome a (parsedBy (r .fields))))
+  pub leads : (holidays : List ℕ) (a : Account)
+      → Leads from (r .taken) (fedFrom holidays input from room (state a begun line))
+      (fedBehind holidays input (r .taken) room (parsedOutcome holidays a (parsedBy (r .fields))))
 
 -- The next line.
 pub record Found (input : List ℕ) (from room begun : ℕ) (line kept : List ℕ) (r : Next) : Type 0 where
   pub within : r .taken ≤ length input
   pub long : length kept ≡ keptMost
   pub ended : r .ended ≡ true → Ends input from room begun line kept r
-  pub waits : r .ended ≡ false → (a : Account)
-      → Leads from (r .taken) (fedFrom input from room (state a begun line)) (nothing (state a (r .length) kept))
+  pub waits : r .ended ≡ false → (holidays : List ℕ) (a : Account)
+      → Leads from (r .taken) (fedFrom holidays input from room (state a begun line)) (nothing (state a (r .length) kept))
   pub clear : r .length ≡ 0 → kept ≡ blankLine
 
 abbrev pub endedAt : Fields → ℕ → Next

@@ -31,21 +31,21 @@ part-on part (c ∷ cs) more =
     by-test (eqb c lineFeed) (λ e. rw e (part-on [] cs more)) (λ e. rw e (part-on (part ++ (c ∷ [])) cs more))
 
 -- Lines behind lines.
-answers-behind : (a : Account) (lines more : List (List ℕ))
-    → answersOf a (lines ++ more) ≡ answersOf a lines ++ answersOf (accountAfter a lines) more
+answers-behind : (holidays : List ℕ) (a : Account) (lines more : List (List ℕ))
+    → answersOf holidays a (lines ++ more) ≡ answersOf holidays a lines ++ answersOf holidays (accountAfter holidays a lines) more
 unfolding answersOf accountAfter
-answers-behind a [] more = refl
-answers-behind a (line ∷ lines) more = rw (answers-behind (lineOutcome a line .account) lines more)
+answers-behind holidays a [] more = refl
+answers-behind holidays a (line ∷ lines) more = rw (answers-behind holidays (lineOutcome holidays a line .account) lines more)
 
 -- The text of the answers to lines.
-abbrev pub textOf : Account → List (List ℕ) → List ℕ
-textOf a lines = joined answerLine (answersOf a lines)
+abbrev pub textOf : List ℕ → Account → List (List ℕ) → List ℕ
+textOf holidays a lines = joined answerLine (answersOf holidays a lines)
 
-pub text-behind : (a : Account) (lines more : List (List ℕ))
-    → textOf a (lines ++ more) ≡ textOf a lines ++ textOf (accountAfter a lines) more
-text-behind a lines more = rw (answers-behind a lines more, joined-behind answerLine)
+pub text-behind : (holidays : List ℕ) (a : Account) (lines more : List (List ℕ))
+    → textOf holidays a (lines ++ more) ≡ textOf holidays a lines ++ textOf holidays (accountAfter holidays a lines) more
+text-behind holidays a lines more = rw (answers-behind holidays a lines more, joined-behind answerLine)
 
-pub account-behind : (a : Account) (lines more : List (List ℕ)) → accountAfter a (lines ++ more) ≡ accountAfter (accountAfter a lines) more
+pub account-behind : (holidays : List ℕ) (a : Account) (lines more : List (List ℕ)) → accountAfter holidays a (lines ++ more) ≡ accountAfter holidays (accountAfter holidays a lines) more
 unfolding accountAfter
-account-behind a [] more = refl
-account-behind a (line ∷ lines) more = account-behind (lineOutcome a line .account) lines more
+account-behind holidays a [] more = refl
+account-behind holidays a (line ∷ lines) more = account-behind holidays (lineOutcome holidays a line .account) lines more

@@ -59,18 +59,18 @@ module _ {s : State} {part : List ℕ} (h : Holds s part) where
       too-long (take keptMost part) (rw (length-take-le keptMost part (omega arith)) (omega arith)) ∙ sym (too-long part (omega arith)))
 
 -- What a piece did: it ended the lines of what was taken of it.
-record Went (s : State) (part bytes : List ℕ) (f : Feeding) : Type 0 where
+record Went (holidays : List ℕ) (s : State) (part bytes : List ℕ) (f : Feeding) : Type 0 where
   holds : Holds (f .state) (partAfter part (take (f .taken) bytes))
-  account-is : f .state .account ≡ accountAfter (s .account) (linesIn part (take (f .taken) bytes))
-  output-is : f .output ≡ textOf (s .account) (linesIn part (take (f .taken) bytes))
+  account-is : f .state .account ≡ accountAfter holidays (s .account) (linesIn part (take (f .taken) bytes))
+  output-is : f .output ≡ textOf holidays (s .account) (linesIn part (take (f .taken) bytes))
 
-module _ {s : State} {part : List ℕ} (h : Holds s part) where
-  went-nothing : (bytes : List ℕ) → Went s part bytes (nothing s)
+module _ (holidays : List ℕ) {s : State} {part : List ℕ} (h : Holds s part) where
+  went-nothing : (bytes : List ℕ) → Went holidays s part bytes (nothing s)
   unfolding partAfter linesIn accountAfter answersOf
   went-nothing bytes = record { holds = h; account-is = refl; output-is = refl }
 
   module _ {c : ℕ} {cs : List ℕ} {f : Feeding} where
-    went-end : eqb c lineFeed ≡ true → Went (ended s) [] cs f → Went s part (c ∷ cs) (behind (answerLine (lineEnds s .answer)) f)
+    went-end : eqb c lineFeed ≡ true → Went holidays (ended holidays s) [] cs f → Went holidays s part (c ∷ cs) (behind (answerLine (lineEnds holidays s .answer)) f)
     unfolding partAfter linesIn accountAfter answersOf
     went-end e w =
         record {
@@ -79,7 +79,7 @@ module _ {s : State} {part : List ℕ} (h : Holds s part) where
           output-is = rw (e, w .output-is, line-read h);
         }
 
-    went-kept : eqb c lineFeed ≡ false → Went (kept s c) (part ++ (c ∷ [])) cs f → Went s part (c ∷ cs) (behind [] f)
+    went-kept : eqb c lineFeed ≡ false → Went holidays (kept s c) (part ++ (c ∷ [])) cs f → Went holidays s part (c ∷ cs) (behind [] f)
     unfolding partAfter linesIn accountAfter answersOf
     went-kept e w =
         record {
@@ -88,35 +88,35 @@ module _ {s : State} {part : List ℕ} (h : Holds s part) where
           output-is = rw (e, ← kept-account s c) (w .output-is);
         }
 
-went : (bytes : List ℕ) (room : ℕ) {s : State} {part : List ℕ} → Holds s part → Went s part bytes (feeding room s bytes)
+went : (holidays bytes : List ℕ) (room : ℕ) {s : State} {part : List ℕ} → Holds s part → Went holidays s part bytes (feeding holidays room s bytes)
 unfolding feeding
-went [] room h = went-nothing h []
-went (c ∷ cs) room {s} h =
+went holidays [] room h = went-nothing holidays h []
+went holidays (c ∷ cs) room {s} h =
     by-test (eqb c lineFeed)
     (λ e.
-    by-test (ltb room longestAnswer) (λ r. rw (e, r) (went-nothing h (c ∷ cs)))
-    (λ r. rw (e, r) (went-end h e (went cs (room - length (answerLine (lineEnds s .answer))) (holds-none (lineEnds s .account))))))
-    (λ e. rw e (went-kept h e (went cs room (holds-kept h c))))
+    by-test (ltb room longestAnswer) (λ r. rw (e, r) (went-nothing holidays h (c ∷ cs)))
+    (λ r. rw (e, r) (went-end holidays h e (went holidays cs (room - length (answerLine (lineEnds holidays s .answer))) (holds-none (lineEnds holidays s .account))))))
+    (λ e. rw e (went-kept holidays h e (went holidays cs room (holds-kept h c))))
 
-pub stands-start : Stands [] [] fresh
+pub stands-start : (holidays : List ℕ) → Stands holidays [] [] fresh
 unfolding partAfter linesIn accountAfter answersOf
-stands-start = record { holds = holds-none newAccount; account-is = refl; out-is = refl }
+stands-start holidays = record { holds = holds-none newAccount; account-is = refl; out-is = refl }
 
-module _ {seen out : List ℕ} {s : State} (w : Stands seen out s) where
+module _ {holidays seen out : List ℕ} {s : State} (w : Stands holidays seen out s) where
   pub stands-on : (room : ℕ) (bytes : List ℕ)
-      → let f = feeding room s bytes in Stands (seen ++ take (f .taken) bytes) (out ++ f .output) (f .state)
+      → let f = feeding holidays room s bytes in Stands holidays (seen ++ take (f .taken) bytes) (out ++ f .output) (f .state)
   stands-on room bytes =
-      let more = take (feeding room s bytes .taken) bytes in
+      let more = take (feeding holidays room s bytes .taken) bytes in
       let before = linesIn [] seen in
       let new = linesIn (partAfter [] seen) more in
-      let g = went bytes room (w .holds) in
+      let g = went holidays bytes room (w .holds) in
       record {
         holds = rw (part-on [] seen more) (g .holds);
-        account-is = rw (lines-on [] seen more, account-behind newAccount before new, ← w .account-is) (g .account-is);
-        out-is = rw (lines-on [] seen more, text-behind newAccount before new, ← w .account-is, ← w .out-is, ← g .output-is);
+        account-is = rw (lines-on [] seen more, account-behind holidays newAccount before new, ← w .account-is) (g .account-is);
+        out-is = rw (lines-on [] seen more, text-behind holidays newAccount before new, ← w .account-is, ← w .out-is, ← g .output-is);
       }
 
-  pub made-is : out ≡ made seen
+  pub made-is : out ≡ made holidays seen
   unfolding made
   made-is = w .out-is
 
@@ -135,16 +135,16 @@ last-line [] n = absurd (n refl)
 last-line (c ∷ cs) n = refl
 
 -- The end of the input: all that was written is what `bill` writes for all that was taken.
-pub record Ended (seen out : List ℕ) (f : Feeding) : Type 0 where
-  pub out-is : out ++ f .output ≡ bill seen
-  pub at-end : AtEnd seen (f .state)
+pub record Ended (holidays seen out : List ℕ) (f : Feeding) : Type 0 where
+  pub out-is : out ++ f .output ≡ bill holidays seen
+  pub at-end : AtEnd holidays seen (f .state)
 
-fed-none : (room : ℕ) (s : State) → feeding room s [] ≡ nothing s
+fed-none : (holidays : List ℕ) (room : ℕ) (s : State) → feeding holidays room s [] ≡ nothing s
 unfolding feeding
-fed-none room s = refl
+fed-none holidays room s = refl
 
-module _ {seen out : List ℕ} {s : State} (w : Stands seen out s) where
-  ended-none : s .length ≡ 0 → Ended seen out (nothing s)
+module _ {holidays seen out : List ℕ} {s : State} (w : Stands holidays seen out s) where
+  ended-none : s .length ≡ 0 → Ended holidays seen out (nothing s)
   unfolding bill
   ended-none z =
       let count = w .holds .length-is in
@@ -152,7 +152,7 @@ module _ {seen out : List ℕ} {s : State} (w : Stands seen out s) where
       rw (lines-all seen, last-none (partAfter [] seen) (omega arith)) (append-nil (linesIn [] seen)) in
       record { out-is = rw (append-nil out, lines) (w .out-is); at-end = record { account-is = rw lines (w .account-is); none-begun = z } }
 
-  ended-line : (s .length ≡ 0 → ⊥) → Ended seen out (behind (answerLine (lineEnds s .answer)) (nothing (ended s)))
+  ended-line : (s .length ≡ 0 → ⊥) → Ended holidays seen out (behind (answerLine (lineEnds holidays s .answer)) (nothing (ended holidays s)))
   unfolding bill answersOf accountAfter
   ended-line n =
       let part = partAfter [] seen in
@@ -161,51 +161,51 @@ module _ {seen out : List ℕ} {s : State} (w : Stands seen out s) where
       let lines : linesOf seen ≡ before ++ (part ∷ []) = rw (lines-all seen, last-line part (λ z. n (omega arith))) in
       let read = line-read (w .holds) in
       record {
-        out-is = rw (read, lines, text-behind newAccount before (part ∷ []), ← w .account-is, ← w .out-is);
-        at-end = record { account-is = rw (read, lines, account-behind newAccount before (part ∷ []), ← w .account-is); none-begun = refl };
+        out-is = rw (read, lines, text-behind holidays newAccount before (part ∷ []), ← w .account-is, ← w .out-is);
+        at-end = record { account-is = rw (read, lines, account-behind holidays newAccount before (part ∷ []), ← w .account-is); none-begun = refl };
       }
 
-  pub stands-end : (room : ℕ) → longestAnswer ≤ room → Ended seen out (finishing room s)
+  pub stands-end : (room : ℕ) → longestAnswer ≤ room → Ended holidays seen out (finishing holidays room s)
   stands-end room r =
-      let left = room - length (answerLine (lineEnds s .answer)) in
+      let left = room - length (answerLine (lineEnds holidays s .answer)) in
       by-test (eqb (s .length) 0)
-      (λ e. let z = eqb-true (s .length) 0 e in rw (finish-none room s z) (ended-none z))
+      (λ e. let z = eqb-true (s .length) 0 e in rw (finish-none holidays room s z) (ended-none z))
       (λ e.
       let n = eqb-false (s .length) 0 e in
-      rw (finish-line room s n, feed-ends room s lineFeed [] refl r, fed-none left (ended s)) (ended-line n))
+      rw (finish-line holidays room s n, feed-ends holidays room s lineFeed [] refl r, fed-none holidays left (ended holidays s)) (ended-line n))
 
 -- A state that follows what was taken follows one more piece, as far as it was taken.
-pub follows-start : Follows [] fresh
-follows-start = rw (← made-is stands-start) stands-start
+pub follows-start : (holidays : List ℕ) → Follows holidays [] fresh
+follows-start holidays = let start = stands-start holidays in rw (← made-is start) start
 
-pub follows-on : (seen : List ℕ) (s : State) (room : ℕ) (bytes : List ℕ) → Follows seen s
-    → Follows (seen ++ take (feeding room s bytes .taken) bytes) (feeding room s bytes .state)
-follows-on seen s room bytes w = let next = stands-on w room bytes in rw (← made-is next) next
+pub follows-on : (holidays seen : List ℕ) (s : State) (room : ℕ) (bytes : List ℕ) → Follows holidays seen s
+    → Follows holidays (seen ++ take (feeding holidays room s bytes .taken) bytes) (feeding holidays room s bytes .state)
+follows-on holidays seen s room bytes w = let next = stands-on w room bytes in rw (← made-is next) next
 
 -- And where there is room for a line, the end of the input leaves it at its end.
-pub follows-end : (seen : List ℕ) (s : State) (room : ℕ) → longestAnswer ≤ room → Follows seen s → AtEnd seen (finishing room s .state)
-follows-end seen s room r w = stands-end w room r .at-end
+pub follows-end : (holidays seen : List ℕ) (s : State) (room : ℕ) → longestAnswer ≤ room → Follows holidays seen s → AtEnd holidays seen (finishing holidays room s .state)
+follows-end holidays seen s room r w = stands-end w room r .at-end
 
 -- Pieces of any sizes, cut anywhere, with any room: what they make, with what the end makes behind it, is what `bill` writes for all
 -- that was taken.
-stands-all : (pieces : List Piece) {seen out : List ℕ} {s : State} → Stands seen out s
-    → Stands (seen ++ takenOf s pieces) (out ++ writtenOf s pieces) (stateAfter s pieces)
-stands-all [] {seen} {out} w = rw (append-nil seen, append-nil out) w
-stands-all (piece ∷ pieces) {seen} {out} {s} w =
-    let f = feeding (piece .room) s (piece .bytes) in
+stands-all : (pieces : List Piece) {holidays seen out : List ℕ} {s : State} → Stands holidays seen out s
+    → Stands holidays (seen ++ takenOf holidays s pieces) (out ++ writtenOf holidays s pieces) (stateAfter holidays s pieces)
+stands-all [] {holidays} {seen} {out} w = rw (append-nil seen, append-nil out) w
+stands-all (piece ∷ pieces) {holidays} {seen} {out} {s} w =
+    let f = feeding holidays (piece .room) s (piece .bytes) in
     let taken = take (f .taken) (piece .bytes) in
-    rw (← append-assoc seen taken (takenOf (f .state) pieces), ← append-assoc out (f .output) (writtenOf (f .state) pieces))
+    rw (← append-assoc seen taken (takenOf holidays (f .state) pieces), ← append-assoc out (f .output) (writtenOf holidays (f .state) pieces))
     (stands-all pieces (stands-on w (piece .room) (piece .bytes)))
 
-pub in-pieces : (pieces : List Piece) (room : ℕ) → longestAnswer ≤ room
-    → Ended (takenOf fresh pieces) (writtenOf fresh pieces) (finishing room (stateAfter fresh pieces))
-in-pieces pieces room r = stands-end (stands-all pieces stands-start) room r
+pub in-pieces : (holidays : List ℕ) (pieces : List Piece) (room : ℕ) → longestAnswer ≤ room
+    → Ended holidays (takenOf holidays fresh pieces) (writtenOf holidays fresh pieces) (finishing holidays room (stateAfter holidays fresh pieces))
+in-pieces holidays pieces room r = stands-end (stands-all pieces (stands-start holidays)) room r
 
 -- The account that lines leave is reached, and a state behind some input can be fed.
-pub behind-ready : {s : State} → Behind s → Ready s
-behind-ready b =
+pub behind-ready : {holidays : List ℕ} {s : State} → Behind holidays s → Ready holidays s
+behind-ready {holidays} b =
     let lines = linesIn [] (b .seen) in
     record {
-      reached = record { calls = callsOf lines; account-is = b .follows .account-is ∙ account-run lines start };
+      reached = record { calls = callsOf lines; account-is = b .follows .account-is ∙ account-run holidays lines start };
       clear = b .follows .holds .clear;
     }

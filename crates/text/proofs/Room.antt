@@ -5,6 +5,7 @@ use Rattle.common.proofs.Words.{drop, length-append, length-take, drop-cons, eq
 use Rattle.lists.specs.Pad.{pad}
 use Rattle.common.proofs.Cases.{by-test}
 use Rattle.lists.proofs.{Pad.length-pad, Joined.joined-taken}
+use Rattle.duedays.specs.DueDays.{listAllowed}
 use Rattle.meter.specs.{Sharing.finalVolumes, Sharing.volumesOf, Metering.poolTo}
 use Rattle.meter.proofs.Sharing.{final-length}
 use Rattle.account.specs.{declared.Account.Account, declared.Answer.Answer, Calls.standingEstimates, Calls.work, Refusals.refusal}
@@ -19,7 +20,7 @@ use Rattle.answers.specs.Answers.{volumesBytes, answerHead, shown, answerLine, 
 use Rattle.frames.proofs.Digits.{length-digits}
 use Rattle.answers.proofs.Writing.{length-head, length-amounts}
 use Rattle.lines.specs.Feeding.{lineOf, kept, lineEnds, ended, Feeding, feeding}
-use Rattle.lines.specs.{declared.State.State, Line.parsedOutcome}
+use Rattle.lines.specs.{declared.State.State, Line.readOutcome, Line.parsedOutcome}
 use Rattle.text.specs.Lines.{endsIn}
 use Rattle.feeding.specs.Reached.{Reached}
 use Rattle.lines.proofs.Feeding.{feed-ends, feed-keeps}
@@ -32,18 +33,18 @@ final-few a reading w =
     let final = final-length (standingEstimates a) (poolTo (a .meter) reading) in
     omega (arith, final, length-take (a .estimates .count) (a .estimates .periods), misses-most a w)
 
-volumes-few : (a : Account) (call : Call) → whole a ≡ true → length (work a call .volumes) ≤ 7
+volumes-few : (holidays : List ℕ) (a : Account) (call : Call) → whole a ≡ true → length (work holidays a call .volumes) ≤ 7
 unfolding work
-volumes-few a (Opening day reading digits) w = omega arith
-volumes-few a (Reading day reading fuel) w = final-few a reading w
-volumes-few a (Missed day fuel) w = omega arith
-volumes-few a (Absent day fuel) w = omega arith
-volumes-few a (Exchange day old new digits) w = omega arith
-volumes-few a (Disconnection day reading fuel) w = final-few a reading w
-volumes-few a (Reconnection day reading digits) w = omega arith
-volumes-few a (Cancellation day reading fuel) w = final-few a reading w
-volumes-few a (Payment day yen) w = omega arith
-volumes-few a (StoppedCancellation day) w = omega arith
+volumes-few holidays a (Opening day reading digits) w = omega arith
+volumes-few holidays a (Reading day reading fuel) w = final-few a reading w
+volumes-few holidays a (Missed day fuel) w = omega arith
+volumes-few holidays a (Absent day fuel) w = omega arith
+volumes-few holidays a (Exchange day old new digits) w = omega arith
+volumes-few holidays a (Disconnection day reading fuel) w = final-few a reading w
+volumes-few holidays a (Reconnection day reading digits) w = omega arith
+volumes-few holidays a (Cancellation day reading fuel) w = final-few a reading w
+volumes-few holidays a (Payment day yen) w = omega arith
+volumes-few holidays a (StoppedCancellation day) w = omega arith
 
 -- An answer with at most seven volumes.
 line-short : (answer : Answer) (volumes : List ℕ) → answer .volumes ≡ volumesOf volumes → length volumes ≤ 7
@@ -57,41 +58,48 @@ line-short answer volumes e few =
     rw (length-append, length-append, length-append (answerHead answer) (shown answer), length-head answer, middle, length-amounts answer)
     (omega arith)
 
-call-short : (a : Account) (call : Call) → whole a ≡ true → length (answerLine (outcome a call .answer)) ≤ longestAnswer
-unfolding outcome
-call-short a call w =
-    by-test (eqb (refusal a call) 0)
-    (λ e. rw e (line-short (accepted (work a call) .answer) (work a call .volumes) refl (volumes-few a call w)))
-    (λ e. rw e (line-short (declined a (refusal a call) .answer) [] refl (omega arith)))
+refusal-short : (a : Account) (number : ℕ) → length (answerLine (declined a number .answer)) ≤ longestAnswer
+refusal-short a number = line-short (declined a number .answer) [] refl (omega arith)
 
-answer-short : (a : Account) (p : Parsed) → Reached a → length (answerLine (parsedOutcome a p .answer)) ≤ longestAnswer
-answer-short a (Frame call) r = call-short a call (reached-whole a r)
-answer-short a NotAFrame r = line-short (declined a 40 .answer) [] refl (omega arith)
+call-short : (holidays : List ℕ) (a : Account) (call : Call) → whole a ≡ true → length (answerLine (outcome holidays a call .answer)) ≤ longestAnswer
+unfolding outcome
+call-short holidays a call w =
+    by-test (eqb (refusal holidays a call) 0)
+    (λ e. rw e (line-short (accepted (work holidays a call) .answer) (work holidays a call .volumes) refl (volumes-few holidays a call w)))
+    (λ e. rw e (refusal-short a (refusal holidays a call)))
+
+answer-short : (holidays : List ℕ) (a : Account) (p : Parsed) → Reached holidays a
+    → length (answerLine (parsedOutcome holidays a p .answer)) ≤ longestAnswer
+answer-short holidays a p r = by-test (listAllowed holidays) (λ e. rw e (read p)) (λ e. rw e (refusal-short a 14))
+  where
+    read : (line : Parsed) → length (answerLine (readOutcome holidays a line .answer)) ≤ longestAnswer
+    read (Frame call) = call-short holidays a call (reached-whole holidays a r)
+    read NotAFrame = refusal-short a 40
 
 -- All is taken, and room for one more answer is left.
-pub record AllTaken (room : ℕ) (s : State) (bytes : List ℕ) : Type 0 where
-  pub taken-all : feeding room s bytes .taken ≡ length bytes
-  pub left : length (feeding room s bytes .output) + longestAnswer ≤ room
+pub record AllTaken (holidays : List ℕ) (room : ℕ) (s : State) (bytes : List ℕ) : Type 0 where
+  pub taken-all : feeding holidays room s bytes .taken ≡ length bytes
+  pub left : length (feeding holidays room s bytes .output) + longestAnswer ≤ room
 
-pub all-taken : (bytes : List ℕ) (room : ℕ) (s : State) → Reached (s .account) → longestAnswer * (endsIn bytes + 1) ≤ room
-    → AllTaken room s bytes
+pub all-taken : (holidays bytes : List ℕ) (room : ℕ) (s : State) → Reached holidays (s .account) → longestAnswer * (endsIn bytes + 1) ≤ room
+    → AllTaken holidays room s bytes
 unfolding feeding
-all-taken [] room s r h = record { taken-all = refl; left = omega arith }
-all-taken (c ∷ cs) room s r h =
-    let line = answerLine (lineEnds s .answer) in
-    let short : length line ≤ longestAnswer = answer-short (s .account) (parsed (lineOf s)) r in
+all-taken holidays [] room s r h = record { taken-all = refl; left = omega arith }
+all-taken holidays (c ∷ cs) room s r h =
+    let line = answerLine (lineEnds holidays s .answer) in
+    let short : length line ≤ longestAnswer = answer-short holidays (s .account) (parsed (lineOf s)) r in
     by-test (eqb c lineFeed)
     (λ e.
     let k : longestAnswer * (suc (endsIn cs) + 1) ≤ room = rw e at h in
-    let rest = all-taken cs (room - length line) (ended s) (reached-parsed (s .account) (parsed (lineOf s)) r) (omega arith) in
-    let is = feed-ends room s c cs (eqb-true c lineFeed e) (omega arith) in
+    let rest = all-taken holidays cs (room - length line) (ended holidays s) (reached-parsed holidays (s .account) (parsed (lineOf s)) r) (omega arith) in
+    let is = feed-ends holidays room s c cs (eqb-true c lineFeed e) (omega arith) in
     record {
       taken-all = ap (λ (f : Feeding). f .taken) is ∙ ap suc (rest .taken-all);
-      left = rw (is, length-append line (feeding (room - length line) (ended s) cs .output)) (omega (arith, rest .left));
+      left = rw (is, length-append line (feeding holidays (room - length line) (ended holidays s) cs .output)) (omega (arith, rest .left));
     })
     (λ e.
-    let rest = all-taken cs room (kept s c) (rw (kept-account s c) r) (rw e at h) in
-    let is = feed-keeps room s c cs (eqb-false c lineFeed e) in
+    let rest = all-taken holidays cs room (kept s c) (rw (kept-account s c) r) (rw e at h) in
+    let is = feed-keeps holidays room s c cs (eqb-false c lineFeed e) in
     record { taken-all = ap (λ (f : Feeding). f .taken) is ∙ ap suc (rest .taken-all); left = rw is (rest .left) })
 
 -- The line ends from a place on: one more where a line ends there.

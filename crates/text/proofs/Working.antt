@@ -15,29 +15,29 @@ use Rattle.text.proofs.Pieces.{follows-start, stands-on, made-is, stand
 use Rattle.text.proofs.Lines.{lines-split, text-behind}
 
 -- What the lines of a front make is within what the whole input makes.
-pub made-within : (input : List ℕ) (n : ℕ) → length (made (take n input)) ≤ length (bill input)
+pub made-within : (holidays input : List ℕ) (n : ℕ) → length (made holidays (take n input)) ≤ length (bill holidays input)
 unfolding made bill
-made-within input n =
+made-within holidays input n =
     let lines = linesIn [] (take n input) in
     let rest = linesFrom (partAfter [] (take n input)) (drop n input) in
     let whole : linesOf input ≡ lines ++ rest =
     ap linesOf (sym (take-append-drop n input)) ∙ lines-split [] (take n input) (drop n input) in
-    rw (whole, text-behind newAccount lines rest, length-append) (omega arith)
+    rw (whole, text-behind holidays newAccount lines rest, length-append) (omega arith)
 
 -- Where the work stands after so many bytes.
-pub record Working (input text : List ℕ) (writing : Bool) (out : List ℕ) (s : State) (taken size : ℕ) : Type 0 where
-  pub stands : Follows (take taken input) s
-  pub size-is : size ≡ length (made (take taken input))
-  pub out-is : out ≡ cond writing (written text 0 (made (take taken input))) text
+pub record Working (holidays input text : List ℕ) (writing : Bool) (out : List ℕ) (s : State) (taken size : ℕ) : Type 0 where
+  pub stands : Follows holidays (take taken input) s
+  pub size-is : size ≡ length (made holidays (take taken input))
+  pub out-is : out ≡ cond writing (written text 0 (made holidays (take taken input))) text
 
-made-none : made [] ≡ []
+made-none : (holidays : List ℕ) → made holidays [] ≡ []
 unfolding made linesIn answersOf
-made-none = refl
+made-none holidays = refl
 
-pub working-start : (input text : List ℕ) (writing : Bool) → Working input text writing text fresh 0 0
-working-start input text writing =
+pub working-start : (holidays input text : List ℕ) (writing : Bool) → Working holidays input text writing text fresh 0 0
+working-start holidays input text writing =
     let same : text ≡ cond writing text text = elim writing [ true ↦ refl | false ↦ refl ] in
-    record { stands = follows-start; size-is = rw made-none refl; out-is = rw made-none same }
+    record { stands = follows-start holidays; size-is = rw (made-none holidays) refl; out-is = rw (made-none holidays) same }
 
 -- What is written behind what stands, if it is to be written.
 written-more : (writing : Bool) (text one two xs ys : List ℕ) (n : ℕ) → length xs ≡ n → one ≡ cond writing (written text 0 xs) text
@@ -82,22 +82,22 @@ module _ {r : Fed} {place space : List ℕ} {f : Feeding} (m : Lent r place spac
   front-put writing out size room e = e ∙ rw front-is (shown-fits writing out size (f .output) room)
 
 -- And at its end.
-pub record Worked (input text : List ℕ) (writing : Bool) (out : List ℕ) (account : Account) (size : ℕ) : Type 0 where
-  pub account-is : account ≡ accountAfter newAccount (linesOf input)
-  pub size-is : size ≡ length (bill input)
-  pub out-is : out ≡ cond writing (written text 0 (bill input)) text
+pub record Worked (holidays input text : List ℕ) (writing : Bool) (out : List ℕ) (account : Account) (size : ℕ) : Type 0 where
+  pub account-is : account ≡ accountAfter holidays newAccount (linesOf input)
+  pub size-is : size ≡ length (bill holidays input)
+  pub out-is : out ≡ cond writing (written text 0 (bill holidays input)) text
 
-module _ {input text : List ℕ} {writing : Bool} {out : List ℕ} {s : State} {taken size : ℕ}
-    (w : Working input text writing out s taken size) (room : ℕ) where
+module _ {holidays input text : List ℕ} {writing : Bool} {out : List ℕ} {s : State} {taken size : ℕ}
+    (w : Working holidays input text writing out s taken size) (room : ℕ) where
   abbrev before : List ℕ
-  before = made (take taken input)
+  before = made holidays (take taken input)
 
-  pub working-on : {out′ : List ℕ} → let f = feeding room s (drop taken input) in out′ ≡ shown writing out size (f .output)
-      → Working input text writing out′ (f .state) (taken + f .taken) (size + length (f .output))
+  pub working-on : {out′ : List ℕ} → let f = feeding holidays room s (drop taken input) in out′ ≡ shown writing out size (f .output)
+      → Working holidays input text writing out′ (f .state) (taken + f .taken) (size + length (f .output))
   working-on {out′} e =
-      let f = feeding room s (drop taken input) in
+      let f = feeding holidays room s (drop taken input) in
       let next = stands-on (w .stands) room (drop taken input) in
-      let done : before ++ f .output ≡ made (take (taken + f .taken) input) = rw (take-add taken (f .taken) input) (made-is next) in
+      let done : before ++ f .output ≡ made holidays (take (taken + f .taken) input) = rw (take-add taken (f .taken) input) (made-is next) in
       record {
         stands = rw (← done, take-add taken (f .taken) input) next;
         size-is = rw (← done, length-append before (f .output), ← w .size-is);
@@ -105,15 +105,15 @@ module _ {input text : List ℕ} {writing : Bool} {out : List ℕ} {s : State} {
       }
 
   pub working-end : {out′ : List ℕ} → longestAnswer ≤ room → length input ≤ taken
-      → let g = finishing room s in out′ ≡ shown writing out size (g .output)
-      → Worked input text writing out′ (g .state .account) (size + length (g .output))
+      → let g = finishing holidays room s in out′ ≡ shown writing out size (g .output)
+      → Worked holidays input text writing out′ (g .state .account) (size + length (g .output))
   working-end {out′} r h e =
-      let g = finishing room s in
+      let g = finishing holidays room s in
       let all = take-all taken input h in
       let ended = stands-end (w .stands) room r in
-      let done : before ++ g .output ≡ bill input = ended .out-is ∙ ap bill all in
+      let done : before ++ g .output ≡ bill holidays input = ended .out-is ∙ ap (bill holidays) all in
       record {
-        account-is = ended .at-end .account-is ∙ ap (λ xs. accountAfter newAccount (linesOf xs)) all;
+        account-is = ended .at-end .account-is ∙ ap (λ xs. accountAfter holidays newAccount (linesOf xs)) all;
         size-is = rw (← done, length-append before (g .output), ← w .size-is);
         out-is = rw (← done) (written-more writing text out out′ before (g .output) size (sym (w .size-is)) (w .out-is) e);
       }

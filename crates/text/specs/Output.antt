@@ -1,4 +1,4 @@
--- What the programs write for an input.
+-- What the programs write for an input, by a list of closed days.
 use mathlib.Core.{Bool.cond, List.List, List.[], List._∷_}
 use Prim.Native.Nat.{ℕ, _+_, _-_, _^_}
 use lib.{Dec.leb, ListN.length, ListN.take}
@@ -13,13 +13,13 @@ use Rattle.lines.specs.Line.{lineOutcome}
 use Rattle.text.specs.Lines.{linesOf}
 
 -- Each line on the account that the line before left.
-unfoldable pub answersOf : Account → List (List ℕ) → List Answer
-answersOf a [] = []
-answersOf a (line ∷ lines) = lineOutcome a line .answer ∷ answersOf (lineOutcome a line .account) lines
+unfoldable pub answersOf : List ℕ → Account → List (List ℕ) → List Answer
+answersOf holidays a [] = []
+answersOf holidays a (line ∷ lines) = lineOutcome holidays a line .answer ∷ answersOf holidays (lineOutcome holidays a line .account) lines
 
-unfoldable pub accountAfter : Account → List (List ℕ) → Account
-accountAfter a [] = a
-accountAfter a (line ∷ lines) = accountAfter (lineOutcome a line .account) lines
+unfoldable pub accountAfter : List ℕ → Account → List (List ℕ) → Account
+accountAfter holidays a [] = a
+accountAfter holidays a (line ∷ lines) = accountAfter holidays (lineOutcome holidays a line .account) lines
 
 -- Each open item, oldest first.
 abbrev pub noticesOf : List Item → List ℕ
@@ -29,11 +29,11 @@ abbrev pub openNotices : Account → List ℕ
 openNotices a = noticesOf (take (a .ledger .count) (a .ledger .items))
 
 -- The programs: input bytes to output bytes. Program `bill` writes one frame a line.
-unfoldable pub bill : List ℕ → List ℕ
-bill input = joined answerLine (answersOf newAccount (linesOf input))
+unfoldable pub bill : List ℕ → List ℕ → List ℕ
+bill holidays input = joined answerLine (answersOf holidays newAccount (linesOf input))
 
-unfoldable pub notice : List ℕ → List ℕ
-notice input = openNotices (accountAfter newAccount (linesOf input))
+unfoldable pub notice : List ℕ → List ℕ → List ℕ
+notice holidays input = openNotices (accountAfter holidays newAccount (linesOf input))
 
 -- The calls among lines.
 abbrev pub callsIn : Parsed → List Call → List Call

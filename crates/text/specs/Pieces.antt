@@ -23,8 +23,8 @@ partAfter part [] = part
 partAfter part (c ∷ cs) = cond (eqb c lineFeed) (partAfter [] cs) (partAfter (part ++ (c ∷ [])) cs)
 
 -- What is written for the lines that end in what came.
-unfoldable pub made : List ℕ → List ℕ
-made came = joined answerLine (answersOf newAccount (linesIn [] came))
+unfoldable pub made : List ℕ → List ℕ → List ℕ
+made holidays came = joined answerLine (answersOf holidays newAccount (linesIn [] came))
 
 -- A state that keeps the first characters of a part of a line.
 pub record Holds (s : State) (part : List ℕ) : Type 0 where
@@ -34,28 +34,28 @@ pub record Holds (s : State) (part : List ℕ) : Type 0 where
   pub clear : s .length ≡ 0 → s .line ≡ blankLine
 
 -- Where feeding stands: what was taken, and what was written for it.
-pub record Stands (seen out : List ℕ) (s : State) : Type 0 where
+pub record Stands (holidays seen out : List ℕ) (s : State) : Type 0 where
   pub holds : Holds s (partAfter [] seen)
-  pub account-is : s .account ≡ accountAfter newAccount (linesIn [] seen)
-  pub out-is : out ≡ joined answerLine (answersOf newAccount (linesIn [] seen))
+  pub account-is : s .account ≡ accountAfter holidays newAccount (linesIn [] seen)
+  pub out-is : out ≡ joined answerLine (answersOf holidays newAccount (linesIn [] seen))
 
 -- A state that stands behind what was taken, all that it makes written.
-abbrev pub Follows : List ℕ → State → Type 0
-Follows seen s = Stands seen (made seen) s
+abbrev pub Follows : List ℕ → List ℕ → State → Type 0
+Follows holidays seen s = Stands holidays seen (made holidays seen) s
 
 -- The state at the end of an input: the account is the one that all its lines leave, and no line has begun.
-pub record AtEnd (input : List ℕ) (s : State) : Type 0 where
-  pub account-is : s .account ≡ accountAfter newAccount (linesOf input)
+pub record AtEnd (holidays input : List ℕ) (s : State) : Type 0 where
+  pub account-is : s .account ≡ accountAfter holidays newAccount (linesOf input)
   pub none-begun : s .length ≡ 0
 
 -- Of an input that was read no contract can name the bytes: a state that some input leads to, and one at the end of some input.
-pub record Behind (s : State) : Type 0 where
+pub record Behind (holidays : List ℕ) (s : State) : Type 0 where
   pub seen : List ℕ
-  pub follows : Follows seen s
+  pub follows : Follows holidays seen s
 
-pub record Finished (s : State) : Type 0 where
+pub record Finished (holidays : List ℕ) (s : State) : Type 0 where
   pub input : List ℕ
-  pub at-end : AtEnd input s
+  pub at-end : AtEnd holidays input s
 
 -- A piece, and the room lent for what it makes.
 pub record Piece : Type 0 where
@@ -63,26 +63,26 @@ pub record Piece : Type 0 where
   pub room : ℕ
 
 -- Pieces fed one after another: the state behind them, the bytes taken and the bytes written, each in order.
-abbrev pub stateAfter : State → List Piece → State
-stateAfter s [] = s
-stateAfter s (piece ∷ pieces) = stateAfter (feeding (piece .room) s (piece .bytes) .state) pieces
+abbrev pub stateAfter : List ℕ → State → List Piece → State
+stateAfter holidays s [] = s
+stateAfter holidays s (piece ∷ pieces) = stateAfter holidays (feeding holidays (piece .room) s (piece .bytes) .state) pieces
 
-abbrev pub takenOf : State → List Piece → List ℕ
-takenOf s [] = []
-takenOf s (piece ∷ pieces) =
-    take (feeding (piece .room) s (piece .bytes) .taken) (piece .bytes) ++ takenOf (feeding (piece .room) s (piece .bytes) .state) pieces
+abbrev pub takenOf : List ℕ → State → List Piece → List ℕ
+takenOf holidays s [] = []
+takenOf holidays s (piece ∷ pieces) =
+    take (feeding holidays (piece .room) s (piece .bytes) .taken) (piece .bytes) ++ takenOf holidays (feeding holidays (piece .room) s (piece .bytes) .state) pieces
 
-abbrev pub writtenOf : State → List Piece → List ℕ
-writtenOf s [] = []
-writtenOf s (piece ∷ pieces) = feeding (piece .room) s (piece .bytes) .output ++ writtenOf (feeding (piece .room) s (piece .bytes) .state) pieces
+abbrev pub writtenOf : List ℕ → State → List Piece → List ℕ
+writtenOf holidays s [] = []
+writtenOf holidays s (piece ∷ pieces) = feeding holidays (piece .room) s (piece .bytes) .output ++ writtenOf holidays (feeding holidays (piece .room) s (piece .bytes) .state) pieces
 
 -- The book of the calls among lines.
-abbrev pub bookOf : List (List ℕ) → Book
-bookOf lines = run start (callsOf lines) .book
+abbrev pub bookOf : List ℕ → List (List ℕ) → Book
+bookOf holidays lines = run holidays start (callsOf lines) .book
 
 -- Demand 3 for an input: the volumes are those that its answers show, the account is the one that its last line leaves.
-pub record Sums (lines : List (List ℕ)) : Type 0 where
-  pub volumes : total finalVolume (answersOf newAccount lines) ≡ bookOf lines .metering .advanced
+pub record Sums (holidays : List ℕ) (lines : List (List ℕ)) : Type 0 where
+  pub volumes : total finalVolume (answersOf holidays newAccount lines) ≡ bookOf holidays lines .metering .advanced
   pub yen :
-      bookOf lines .money .received + unpaidOn (accountAfter newAccount lines) + accountAfter newAccount lines .ledger .held
-      ≡ prices (bookOf lines .periods) + bookOf lines .money .arisen + accountAfter newAccount lines .ledger .credit
+      bookOf holidays lines .money .received + unpaidOn (accountAfter holidays newAccount lines) + accountAfter holidays newAccount lines .ledger .held
+      ≡ prices (bookOf holidays lines .periods) + bookOf holidays lines .money .arisen + accountAfter holidays newAccount lines .ledger .credit

@@ -29,20 +29,20 @@ const LONGEST_INPUT: usize = 281_474_976_710_656;
 
 // What `bill` writes for an input, and its size; where out is too short for it, nothing is written. Where there is room for the longest
 // answer to each line it is written as it is worked, and else measured first.
-pub fn write_bill(input: &[u8], out: &mut [u8]) -> usize
-    ensures { λ r. ⌜ r ≡ sizeOf (now (input .entry)) (bill (now (input .entry))) ⌝ }
-    ensures { λ _. ⌜ now (out .exit) ≡ worked (now (input .entry)) (now (out .entry)) (bill (now (input .entry))) ⌝ }
-    ensures { λ _. ⌜ Sums (linesOf (now (input .entry))) ⌝ }
+pub fn write_bill(input: &[u8], holidays: &[u16], out: &mut [u8]) -> usize
+    ensures { λ r. ⌜ r ≡ sizeOf (now (input .entry)) (bill (now (holidays .entry)) (now (input .entry))) ⌝ }
+    ensures { λ _. ⌜ now (out .exit) ≡ worked (now (input .entry)) (now (out .entry)) (bill (now (holidays .entry)) (now (input .entry))) ⌝ }
+    ensures { λ _. ⌜ Sums (now (holidays .entry)) (linesOf (now (input .entry))) ⌝ }
 {
     if input.len() > LONGEST_INPUT {
         return 18_446_744_073_709_551_615;
     }
     if LONGEST_ANSWER * (count_ends(input) + 1) <= out.len() {
-        return write_at_once(input, out);
+        return write_at_once(input, holidays, out);
     }
-    let measured = work_input(input, out, false);
+    let measured = work_input(input, holidays, out, false);
     if measured.size <= out.len() {
-        work_input(input, out, true);
+        work_input(input, holidays, out, true);
     }
     measured.size
 }
@@ -90,55 +90,55 @@ fn ends_between(input: &[u8], from: usize, to: usize) -> u8
 }
 
 // What `bill` writes, written as the input is worked, and its size.
-fn write_at_once(input: &[u8], out: &mut [u8]) -> usize
+fn write_at_once(input: &[u8], holidays: &[u16], out: &mut [u8]) -> usize
     requires { ⌜ longestAnswer * (endsIn (now input) + 1) ≤ length (now out) ⌝ }
-    ensures { λ r. ⌜ r ≡ length (bill (now (input .entry))) ⌝ }
+    ensures { λ r. ⌜ r ≡ length (bill (now (holidays .entry)) (now (input .entry))) ⌝ }
     ensures { λ r. ⌜ r ≤ length (now (out .entry)) ⌝ }
-    ensures { λ _. ⌜ now (out .exit) ≡ written (now (out .entry)) 0 (bill (now (input .entry))) ⌝ }
+    ensures { λ _. ⌜ now (out .exit) ≡ written (now (out .entry)) 0 (bill (now (holidays .entry)) (now (input .entry))) ⌝ }
 {
-    let fed = feeding::feed(State::new(), input, out);
+    let fed = feeding::feed(State::new(), holidays, input, out);
     let filled = fed.written;
     let state = fed.state;
     let mut space = [0u8; LONGEST_ANSWER];
-    let last = feeding::finish(state, &mut space);
+    let last = feeding::finish(state, holidays, &mut space);
     let more = last.written;
     put_part(&space[..more], out, filled, true);
     filled + more
 }
 
 // What `notice` writes for an input, and its size; where out is too short for it, nothing is written.
-pub fn write_notice(input: &[u8], out: &mut [u8]) -> usize
-    ensures { λ r. ⌜ r ≡ sizeOf (now (input .entry)) (notice (now (input .entry))) ⌝ }
-    ensures { λ _. ⌜ now (out .exit) ≡ worked (now (input .entry)) (now (out .entry)) (notice (now (input .entry))) ⌝ }
+pub fn write_notice(input: &[u8], holidays: &[u16], out: &mut [u8]) -> usize
+    ensures { λ r. ⌜ r ≡ sizeOf (now (input .entry)) (notice (now (holidays .entry)) (now (input .entry))) ⌝ }
+    ensures { λ _. ⌜ now (out .exit) ≡ worked (now (input .entry)) (now (out .entry)) (notice (now (holidays .entry)) (now (input .entry))) ⌝ }
 {
     if input.len() > LONGEST_INPUT {
         return 18_446_744_073_709_551_615;
     }
-    let worked = work_input(input, out, false);
+    let worked = work_input(input, holidays, out, false);
     let account = worked.account;
     put_notices(account, out)
 }
 
 // Works an input to its end, and writes what `bill` writes if that is asked.
-fn work_input(input: &[u8], out: &mut [u8], writing: bool) -> Billed
+fn work_input(input: &[u8], holidays: &[u16], out: &mut [u8], writing: bool) -> Billed
     requires { ⌜ length (now input) ≤ longestInput ⌝ }
-    requires { ⌜ (writing ≡ true → length (bill (now input)) ≤ length (now out)) ⌝ }
-    ensures { λ r. ⌜ r ≡ record { account = accountAfter newAccount (linesOf (now (input .entry))); size = length (bill (now (input .entry))) } ⌝ }
-    ensures { λ _. ⌜ now (out .exit) ≡ cond writing (written (now (out .entry)) 0 (bill (now (input .entry)))) (now (out .entry)) ⌝ }
+    requires { ⌜ (writing ≡ true → length (bill (now holidays) (now input)) ≤ length (now out)) ⌝ }
+    ensures { λ r. ⌜ r ≡ record { account = accountAfter (now (holidays .entry)) newAccount (linesOf (now (input .entry))); size = length (bill (now (holidays .entry)) (now (input .entry))) } ⌝ }
+    ensures { λ _. ⌜ now (out .exit) ≡ cond writing (written (now (out .entry)) 0 (bill (now (holidays .entry)) (now (input .entry)))) (now (out .entry)) ⌝ }
 {
     let mut state = State::new();
     let mut space = [0u8; 4096];
     let mut taken: usize = 0;
     let mut size: usize = 0;
     while taken < input.len() {
-        let fed = feeding::feed(state, &input[taken..], &mut space);
+        let fed = feeding::feed(state, holidays, &input[taken..], &mut space);
         let filled = fed.written;
         put_part(&space[..filled], out, size, writing);
         state = fed.state;
         taken += fed.taken;
         size += filled;
     }
-    let last = feeding::finish(state, &mut space);
+    let last = feeding::finish(state, holidays, &mut space);
     let filled = last.written;
     put_part(&space[..filled], out, size, writing);
     size += filled;

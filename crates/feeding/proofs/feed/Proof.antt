@@ -18,7 +18,7 @@ use Rattle.feeding.proofs.feed.Tie as tie
 
 -- The places that statements name.
 abbrev start-at : tie.After-spread → tie.Start
-start-at c = c .before .before .before .before .before .before .before .before .before
+start-at c = c .before .before .before .before .before .before .before .before .before .before
 
 abbrev spread-at : tie.After-queue-in → tie.After-spread
 spread-at c = c .before .before .before
@@ -43,14 +43,17 @@ module _ (c : tie.After-spread) where
   abbrev items : List Item
   items = rows (c .spread .last .1 .0) (c .spread .last .1 .1 .0) (c .spread .last .1 .1 .1 .0)
 
-  reached : Reached account
+  abbrev holidays : List ℕ
+  holidays = start-at c .args .holidays .now
+
+  reached : Reached holidays account
   reached = start-at c .pre .reached
 
   spreads : Spread (account .ledger) items
   spreads =
       record {
         ledger-long = long (start-at c);
-        count-most = count-most account (reached-whole account reached);
+        count-most = count-most account (reached-whole holidays account reached);
         long = rows-long (c .spread .ensures .1);
         front = c .spread .ensures .0;
       }
@@ -66,7 +69,7 @@ module _ (c : tie.After-queue-in) where
   abbrev queue : Queue
   queue = c .queue-in .result
 
-  lain : Lain (items p) queue head (account p .estimates)
+  lain : Lain (holidays p) (items p) queue head (account p .estimates)
   lain = lain-spread (reached p) (spreads p) (c .before .head-of .ensures) (c .queue-in .ensures)
 
   state-is : state (accountIn (items p) queue head (account p .estimates)) (state₀ p .length) (state₀ p .line) ≡ state₀ p
@@ -81,18 +84,18 @@ module _ (c : tie.After-feed-lines) where
 
   abbrev after : List Item
   after =
-      let last = c .feed-lines .last .1 .1 .1 .1 .1 .1 .1 in
+      let last = c .feed-lines .last .1 .1 .1 .1 .1 .1 .1 .1 in
       rows (last .0) (last .1 .0) (last .1 .1 .0)
 
   abbrev line : List ℕ
   line = c .feed-lines .last .1 .1 .1 .1 .0
 
   abbrev out : List ℕ
-  out = c .feed-lines .last .1 .1 .1 .1 .1 .1 .0
+  out = c .feed-lines .last .1 .1 .1 .1 .1 .1 .1 .0
 
-  runs : Runs (s .args .input .now) (s .args .out .now) (s .args .state) after line out (c .feed-lines .result)
+  runs : Runs (s .args .holidays .now) (s .args .input .now) (s .args .out .now) (s .args .state) after line out (c .feed-lines .result)
   runs =
-      subst (λ x. Runs (s .args .input .now) (s .args .out .now) x after line out (c .feed-lines .result))
+      subst (λ x. Runs (s .args .holidays .now) (s .args .input .now) (s .args .out .now) x after line out (c .feed-lines .result))
       (state-is (queue-at c)) (c .feed-lines .ensures .0)
 
 feed-lines-requires : tie.Need-feed-lines-requires
@@ -118,7 +121,7 @@ returns c =
     λ i. record { state = state (is i) (w .length) (line f); taken = w .taken; written = w .written }
     in
     let same = c .handed-back .ensures ∙ gathers in
-    let ready = subst (λ (x : Fed). Ready (x .state)) (sym same) (record { reached = run .lain .reached; clear = run .clear }) in
+    let ready = subst (λ (x : Fed). Ready (s f .args .holidays .now) (x .state)) (sym same) (record { reached = run .lain .reached; clear = run .clear }) in
     (same ∙ run .fed, (run .text-is, (rw same (run .taken-most, run .written-most), ready)))
 
 pub feed-spec : {M : Type 1} → statement M
@@ -127,7 +130,7 @@ feed-spec =
     (tie.spec
     (λ c κs. record { unpaid-long = refl; amount-long = refl; label-long = refl })  -- spread-requires
     (λ c κs. tt)  -- head-of-requires
-    (λ c κs. let p : tie.After-spread = search in open-bounds (account p) (reached-whole (account p) (reached p)))  -- queue-in-requires
+    (λ c κs. let p : tie.After-spread = search in open-bounds (account p) (reached-whole (holidays p) (account p) (reached p)))  -- queue-in-requires
     (λ c. let p : tie.After-spread = search in sym (line-long (start-at p)))  -- slice-aggregate-feed-lines
     feed-lines-requires
     gathered-requires

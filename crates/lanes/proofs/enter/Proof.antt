@@ -15,7 +15,7 @@ use Rattle.lanes.proofs.enter.Tie as tie
 
 -- Places: the entry is begun, its money has covered items, it is settled, and each posting is stored.
 abbrev begun : tie.After-cover → tie.Start
-begun c = c .before .before .before .before .before .before
+begun c = c .before .before .before .before .before .before .before
 
 abbrev lain : tie.Start → List Item
 lain s = rows (s .args .unpaid .now) (s .args .amount .now) (s .args .label .now)
@@ -24,13 +24,14 @@ abbrev entering : tie.After-cover → Entering
 entering c =
     let s = begun c in
     record {
+      holidays = s .args .holidays .now;
       items = lain s;
       queue = s .args .queue;
       entry = s .args .entry;
       cover = c .cover .result;
       fit = s .pre .0 .fit;
       room = s .pre .0 .room;
-      bounds = s .pre .1;
+      bounds = s .pre .1 .bounds;
       covers = c .cover .ensures;
     }
 
@@ -126,9 +127,9 @@ module _ (c : tie.After-post-item3) where
   put-lies : Lies put (k .settled .queue)
   put-lies = after-lies k put (rows-long (c .post-item3 .ensures .1 .1)) arisen-lie
 
-  put-stands : lying put (k .settled .queue) ≡ next (k .entering .entry) (stood (k .entering))
+  put-stands : lying put (k .settled .queue) ≡ next (k .entering .holidays) (k .entering .entry) (stood (k .entering))
   put-stands =
-      after-stands k put arisen-lie ∙ sym (next-asked (k .entering .entry) (stood (k .entering)) (sym (number-of k) ∙ none))
+      after-stands k put arisen-lie ∙ sym (next-asked (k .entering .holidays) (k .entering .entry) (stood (k .entering)) (sym (number-of k) ∙ none))
 
 few-before : (s : tie.Start) → s .args .queue .count ≤ capacity
 few-before s = let fit = s .pre .0 .fit in omega (arith, part-count (fit .lies), fit .within .count-most)
@@ -141,7 +142,7 @@ cover-requires c κs =
       long = s .pre .0 .long;
       end-most = fit .lies .end-most;
       few = few-before s;
-      day-most = s .pre .1 .day-most;
+      day-most = s .pre .1 .bounds .day-most;
       bounds = fit .within .items-within;
     }
 
@@ -153,7 +154,7 @@ returns c =
     let number = number-of (settling d) in (
       record {
         number-is = number;
-        stands = sym (next-same (s .args .entry) (lying (lain s) (s .args .queue)) (λ z. c .if1 .taken (number ∙ z)));
+        stands = sym (next-same (s .args .holidays .now) (s .args .entry) (lying (lain s) (s .args .queue)) (λ z. c .if1 .taken (number ∙ z)));
         lies = s .pre .0 .fit .lies;
         interest-is = λ z. absurd (c .if1 .taken z);
         few = few-before s;
@@ -164,21 +165,24 @@ returns c =
 
 post-item-requires : tie.Need-post-item-requires
 post-item-requires c κs =
-    let s : tie.Start = search in
+    let d : tie.After-settle-numbers = search in
+    let s = begun (d .before) in
     let long = s .pre .0 .long in (
       record { unpaid-long = simp length-set (long .unpaid-long); amount-long = long .amount-long; label-long = long .label-long },
-      (omega (arith, s .pre .0 .room), s .pre .1 .day-most),
+      (omega (arith, s .pre .0 .room), (s .pre .1 .bounds .day-most, s .pre .1 .listed)),
     )
 
 post-item-requires-2 : tie.Need-post-item-requires-2
 post-item-requires-2 c κs =
     let p : tie.After-post-item = search in
-    (p .post-item .ensures .1 .1, (omega (arith, held-most p), work p .entering .bounds .day-most))
+    let s = begun (numbers p .before) in
+    (p .post-item .ensures .1 .1, (omega (arith, held-most p), (s .pre .1 .bounds .day-most, s .pre .1 .listed)))
 
 post-item-requires-3 : tie.Need-post-item-requires-3
 post-item-requires-3 c κs =
     let p : tie.After-post-item2 = search in
-    (p .post-item2 .ensures .1 .1, (omega (arith, charge-most p), work (first p) .entering .bounds .day-most))
+    let s = begun (numbers (first p) .before) in
+    (p .post-item2 .ensures .1 .1, (omega (arith, charge-most p), (s .pre .1 .bounds .day-most, s .pre .1 .listed)))
 
 returns-2 : tie.Need-returns-2
 returns-2 c =

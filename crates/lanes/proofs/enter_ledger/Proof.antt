@@ -11,7 +11,7 @@ use Rattle.lanes.proofs.enter_ledger.Tie as tie
 
 -- Places: the items are spread, and the numbers of the queue are known.
 abbrev start : tie.After-queue-in → tie.Start
-start u = u .before .before .before .before .before .before
+start u = u .before .before .before .before .before .before .before
 
 abbrev lain : tie.After-queue-in → List Item
 lain u = rows-in (u .before .spread .last .1)
@@ -43,12 +43,13 @@ returns c =
     let done = e .enter .ensures .0 in
     let entry = start u .args .entry in
     let q = e .enter .result .queue in
-    let same : lying _ q ≡ next entry (standing (start u .args .ledger)) = done .stands ∙ ap (next entry) (stands u) in
+    let holidays = start u .args .holidays .now in
+    let same : lying _ q ≡ next holidays entry (standing (start u .args .ledger)) = done .stands ∙ ap (next holidays entry) (stands u) in
     record {
-      number-is = done .number-is ∙ ap (λ x. numberOf (asked entry x)) (stands u);
+      number-is = done .number-is ∙ ap (λ x. numberOf (asked holidays entry x)) (stands u);
       ledger-is = c .ledger-of .ensures ∙ ap (ledgerOf q) (g .gathered .ensures) ∙ gathered-is (done .lies) (done .few) ∙ ap stored same;
       unpaid-is = done .lies .owed-is ∙ ap (λ (x : Standing). unpaidOf (x .open-items)) same;
-      interest-is = λ z. done .interest-is z ∙ ap (interestPosted entry) (stands u);
+      interest-is = λ z. done .interest-is z ∙ ap (interestPosted holidays entry) (stands u);
     }
 
 pub enter-ledger-spec : {M : Type 1} → statement M

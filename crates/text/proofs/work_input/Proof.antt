@@ -15,17 +15,17 @@ use Rattle.text.proofs.{Pieces.behind-ready, work_input.Statement.state
 use Rattle.text.proofs.work_input.Tie as tie
 
 abbrev Inv-loop : tie.InvT-loop
-Inv-loop input out₀ writing state₀ space₀ taken₀ size₀ out state space taken size =
+Inv-loop input holidays out₀ writing state₀ space₀ taken₀ size₀ out state space taken size =
     record {
       within : taken ≤ length input;
       out-long : length out ≡ length out₀;
       space-long : length space ≡ 4096;
       size-most : size ≤ 4096 * taken;
-      working : Working input out₀ writing out state taken size;
+      working : Working holidays input out₀ writing out state taken size;
     }
 
 abbrev μ-loop : tie.MeasureT-loop
-μ-loop input out₀ writing state₀ space₀ taken₀ size₀ out state space taken size = length input - taken
+μ-loop input holidays out₀ writing state₀ space₀ taken₀ size₀ out state space taken size = length input - taken
 
 abbrev Walk : (tie.InvT-loop → tie.MeasureT-loop → Type 0) → Type 0
 Walk T = T Inv-loop μ-loop
@@ -49,10 +49,13 @@ LastAt = Walk tie.After-put-part2
 -- The call's arguments, the input ahead and what it makes, and the end.
 module _ (l : At) where
   abbrev start : Walk tie.Start
-  start = l .before .before .before .before
+  start = l .before .before .before .before .before
 
   abbrev input : List ℕ
   input = start .args .input .now
+
+  abbrev holidays : List ℕ
+  holidays = start .args .holidays .now
 
   abbrev writing : Bool
   writing = start .args .writing
@@ -64,10 +67,10 @@ module _ (l : At) where
   room = length (l .loop .space)
 
   abbrev fed : Feeding
-  fed = feeding room (l .loop .state) ahead
+  fed = feeding holidays room (l .loop .state) ahead
 
   abbrev last : Feeding
-  last = finishing room (l .loop .state)
+  last = finishing holidays room (l .loop .state)
 
   ahead-long : length ahead ≡ length input - l .loop .taken
   ahead-long = length-drop (l .loop .taken) input
@@ -75,7 +78,7 @@ module _ (l : At) where
   enough : longestAnswer ≤ room
   enough = omega (arith, l .loop .inv .space-long)
 
-  ready : Ready (l .loop .state)
+  ready : Ready holidays (l .loop .state)
   ready = behind-ready (record { seen = take (l .loop .taken) input; follows = l .loop .inv .working .stands })
 
 -- A piece is fed.
@@ -86,9 +89,9 @@ module _ (c : FedAt) where
   all : take (length (input l) - l .loop .taken) (ahead l) ≡ ahead l
   all = take-all (length (input l) - l .loop .taken) (ahead l) (omega (arith, ahead-long l))
 
-  made : Lent (c .feed .result) (l .loop .space) (c .feed .last .1 .1 .0) (fed l)
+  made : Lent (c .feed .result) (l .loop .space) (c .feed .last .1 .1 .1 .0) (fed l)
   made =
-      let same = ap (feeding (room l) (l .loop .state)) all in
+      let same = ap (feeding (holidays l) (room l) (l .loop .state)) all in
       record {
         result-is = c .feed .ensures .0 ∙ ap fedOf same;
         space-is = c .feed .ensures .1 .0 ∙ ap (λ (f : Feeding). written (l .loop .space) 0 (f .output)) same;
@@ -101,7 +104,7 @@ module _ (c : FedAt) where
   taken-more : 1 ≤ c .feed .result .taken
   taken-more =
       let t : Walk tie.In-loop = search in
-      let some = taken-some (room l) (l .loop .state) (ahead l) (enough l) (omega (arith, ahead-long l, t .loop-test .taken)) in
+      let some = taken-some (holidays l) (room l) (l .loop .state) (ahead l) (enough l) (omega (arith, ahead-long l, t .loop-test .taken)) in
       rw (ap (λ (f : Fed). f .taken) (made .result-is)) some
 
   size-most : l .loop .size + c .feed .result .written ≤ 4096 * (l .loop .taken + c .feed .result .taken)
@@ -110,7 +113,7 @@ module _ (c : FedAt) where
   fits : writing l ≡ true → l .loop .size + length (fed l .output) ≤ length (l .loop .out)
   fits asked =
       let w = working-on (l .loop .inv .working) (room l) {out′ = shown (writing l) (l .loop .out) (l .loop .size) (fed l .output)} refl in
-      let within = made-within (input l) (l .loop .taken + fed l .taken) in
+      let within = made-within (holidays l) (input l) (l .loop .taken + fed l .taken) in
       omega (arith, w .size-is, within, start l .pre .1 asked, l .loop .inv .out-long)
 
 -- The end is made.
@@ -118,7 +121,7 @@ module _ (c : EndAt) where
   abbrev e : At
   e = c .before .before .before
 
-  ended : Lent (c .finish .result) (e .loop .space) (c .finish .last .1 .0) (last e)
+  ended : Lent (c .finish .result) (e .loop .space) (c .finish .last .1 .1 .0) (last e)
   ended = record { result-is = c .finish .ensures .0; space-is = c .finish .ensures .1 .0; most = c .finish .ensures .1 .1 }
 
   all-taken : length (input e) ≤ e .loop .taken
@@ -145,7 +148,7 @@ loop-holds c =
       out-long = refl;
       space-long = refl;
       size-most = omega arith;
-      working = rw (c .new .ensures) (working-start (s .args .input .now) (s .args .out .now) (s .args .writing));
+      working = rw (c .new .ensures) (working-start (s .args .holidays .now) (s .args .input .now) (s .args .out .now) (s .args .writing));
     }
 
 loop-again : Walk tie.Need-loop-again

@@ -12,7 +12,7 @@ use Rattle.text.proofs.{Room.AllTaken, Room.all-taken, write_at_once.St
 use Rattle.text.proofs.write_at_once.Tie as tie
 
 abbrev start : tie.After-feed → tie.Start
-start c = c .before .before .before .before .before
+start c = c .before .before .before .before .before .before
 
 abbrev at : tie.After-finish → tie.After-feed
 at c = c .before .before .before .before .before
@@ -25,17 +25,20 @@ module _ (c : tie.After-feed) where
   abbrev input : List ℕ
   input = start c .args .input .now
 
+  abbrev holidays : List ℕ
+  holidays = start c .args .holidays .now
+
   abbrev text : List ℕ
   text = start c .args .out .now
 
   abbrev fed : Feeding
-  fed = feeding (length text) fresh input
+  fed = feeding holidays (length text) fresh input
 
   abbrev out : List ℕ
-  out = c .feed .last .1 .1 .0
+  out = c .feed .last .1 .1 .1 .0
 
-  same : feeding (length text) (c .before .before .new .result) input ≡ fed
-  same = ap (λ s. feeding (length text) s input) (c .before .before .new .ensures)
+  same : feeding holidays (length text) (c .before .before .new .result) input ≡ fed
+  same = ap (λ s. feeding holidays (length text) s input) (c .before .before .new .ensures)
 
   fed-is : c .feed .result ≡ fedOf fed
   fed-is = c .feed .ensures .0 ∙ ap fedOf same
@@ -49,17 +52,17 @@ module _ (c : tie.After-feed) where
   out-long : length out ≡ length text
   out-long = search needs
 
-  all : AllTaken (length text) fresh input
-  all = all-taken input (length text) fresh reached-new (start c .pre)
+  all : AllTaken holidays (length text) fresh input
+  all = all-taken holidays input (length text) fresh (reached-new holidays) (start c .pre)
 
 -- And ended.
 module _ (c : tie.After-finish) where
   abbrev last : Feeding
-  last = finishing longestAnswer (fed (at c) .state)
+  last = finishing (holidays (at c)) longestAnswer (fed (at c) .state)
 
-  made : Lent (c .finish .result) (replicate longestAnswer 0) (c .finish .last .1 .0) last
+  made : Lent (c .finish .result) (replicate longestAnswer 0) (c .finish .last .1 .1 .0) last
   made =
-      let same = ap (λ (f : Fed). finishing longestAnswer (f .state)) (fed-is (at c)) in
+      let same = ap (λ (f : Fed). finishing (holidays (at c)) longestAnswer (f .state)) (fed-is (at c)) in
       record {
         result-is = c .finish .ensures .0 ∙ ap fedOf same;
         space-is = c .finish .ensures .1 .0 ∙ ap (λ (f : Feeding). written (replicate longestAnswer 0) 0 (f .output)) same;
@@ -70,15 +73,17 @@ module _ (c : tie.After-finish) where
   fits = omega (arith, filled (at c), made .most, all (at c) .left)
 
   worked : {end : List ℕ} → end ≡ written (out (at c)) (0 + length (fed (at c) .output)) (last .output)
-      → Worked (input (at c)) (text (at c)) true end (last .state .account) (0 + length (fed (at c) .output) + length (last .output))
+      → Worked (holidays (at c)) (input (at c)) (text (at c)) true end (last .state .account) (0 + length (fed (at c) .output) + length (last .output))
   worked e =
-      let w = working-on (working-start (input (at c)) (text (at c)) true) (length (text (at c))) (out-is (at c)) in
+      let w = working-on (working-start (holidays (at c)) (input (at c)) (text (at c)) true) (length (text (at c))) (out-is (at c)) in
       working-end w longestAnswer (omega arith) (omega (arith, all (at c) .taken-all)) e
 
 feed-requires : tie.Need-feed-requires
 feed-requires c κs =
     let n : tie.After-new = search in
-    subst Ready (sym (n .new .ensures)) (record { reached = reached-new; clear = λ z. refl })
+    let s : tie.Start = search in
+    let holidays = s .args .holidays .now in
+    subst (Ready holidays) (sym (n .new .ensures)) (record { reached = reached-new holidays; clear = λ z. refl })
 
 returns : tie.Need-returns
 returns c =

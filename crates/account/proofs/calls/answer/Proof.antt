@@ -19,6 +19,9 @@ module _ (s : tie.Start) where
   abbrev a : Account
   a = s .args .account
 
+  abbrev holidays : List ℕ
+  holidays = s .args .holidays .now
+
   abbrev h : Head
   h = headOf a
 
@@ -32,10 +35,10 @@ module _ (s : tie.Start) where
   long = search (length-of-mapped, needs)
 
   six : length stand ≤ mostMisses
-  six = omega (arith, length-take-most (a .estimates .count) (a .estimates .periods), misses-most a (s .pre))
+  six = omega (arith, length-take-most (a .estimates .count) (a .estimates .periods), misses-most a (s .pre .0))
 
 abbrev start : tie.After-plan-with → tie.Start
-start c = c .before .before .before .before
+start c = c .before .before .before .before .before
 
 -- what stands in the lent volumes
 abbrev lent : tie.After-plan-with → List ℕ
@@ -67,21 +70,21 @@ plan-with-requires : tie.Need-plan-with-requires
 plan-with-requires c κs =
     let s : tie.Start = search in
     let k : tie.After-head-of = search in
-    rw (k .head-of .ensures) (record { bounds = head-bounds (a s) (s .pre); fit = estimates-fit (a s) (s .pre) (long s); long = refl })
+    rw (k .head-of .ensures) (record { bounds = head-bounds (a s) (s .pre .0); fit = estimates-fit (a s) (s .pre .0) (long s); long = refl })
 
 returns : tie.Need-returns
 returns c =
     let p : tie.After-plan-with = search in
     let s = start p in
-    c .decline .ensures ∙ sym (outcome-declined (a s) (call s) (s .pre) _ (number-is p) (c .before .if1 .taken))
+    c .decline .ensures ∙ sym (outcome-declined (holidays s) (a s) (call s) (s .pre .1) (s .pre .0) _ (number-is p) (c .before .if1 .taken))
 
 carry-out-requires : tie.Need-carry-out-requires
 carry-out-requires c κs =
     let at = s c in
-    let e = at .pre in
+    let e = at .pre .0 in
     let room = change-room (h at) (stand at) (call at) (first c) in
     let within = entry-within (h at) (head-bounds (a at) e) (stand at) (six at) (estimates-within (a at) e) (call at) (first c) in
-    rw (passed c) (e, (room, within))
+    rw (passed c) (e, (room, record { bounds = within; listed = at .pre .1 }))
 
 returns-2 : tie.Need-returns-2
 returns-2 c =
@@ -93,8 +96,8 @@ returns-2 c =
     let volumes : _≡_ {A = Volumes} (record { count = p .plan-with .result .count; volumes = lent p }) (volumesOf final) =
     (λ i. record { count = count i; volumes = shown one i }) ∙ zeros-filled final
     in
-    let concludes = outcome-concluded (a at) (call at) (at .pre) (first one) in
-    rw (concludes, ← plan-works (a at) (call at), ← passed one) (c .carry-out .ensures final volumes)
+    let concludes = outcome-concluded (holidays at) (a at) (call at) (at .pre .1) (at .pre .0) (first one) in
+    rw (concludes, ← plan-works (holidays at) (a at) (call at), ← passed one) (c .carry-out .ensures final volumes)
 
 pub answer-spec : {M : Type 1} → statement M
 answer-spec =

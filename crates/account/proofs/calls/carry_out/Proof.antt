@@ -36,15 +36,16 @@ returns-3 c = λ final same.
     let m : tie.Else2 = search in
     let entry = s .args .plan .entry in
     let before = standing (s .args .account .ledger) in
-    let after = asked entry before in
+    let holidays = s .args .holidays .now in
+    let after = asked holidays entry before in
     let asks = not-false (s .args .plan .asks) (e .if1 .left) in
     let changed = e .before .before .before .before .changed .ensures in
     let posted = n .enter-ledger .ensures in
     let z = sym (posted .number-is) ∙ m .if2 .left in
-    let next = next-asked entry before z in
+    let next = next-asked holidays entry before z in
     let ledger : n .enter-ledger .result .ledger ≡ stored after = posted .ledger-is ∙ ap stored next in
     let unpaid : n .enter-ledger .result .unpaid ≡ unpaidOf (standing (stored after) .open-items) =
-    posted .unpaid-is ∙ ap (λ (x : Standing). unpaidOf (x .open-items)) (next ∙ sym (standing-stored after (places-few entry before z)))
+    posted .unpaid-is ∙ ap (λ (x : Standing). unpaidOf (x .open-items)) (next ∙ sym (standing-stored after (places-few holidays entry before z)))
     in
     let made = c .before .account-of2 .ensures in
     rw (asks, z, made, changed, c .answer-of2 .ensures, ledger, unpaid, posted .interest-is (m .if2 .left), same)

@@ -1,0 +1,3 @@
+-- Laws of closed days and due days.
+pub mod Lists
+pub mod DueDays
