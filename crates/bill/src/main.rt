@@ -1,4 +1,4 @@
 // Bills a household's file: its lines on standard input, a frame for each line on standard output.
 fn main() {
-    driver::feed_input(true);
+    driver::serve(true);
 }

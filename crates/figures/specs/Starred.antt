@@ -31,5 +31,5 @@ pub record Starred : Type 0 where
   pub one-miss : finalVolumes (missed ∷ []) 21 ≡ 10 ∷ 11 ∷ []
   pub one-miss-net : netOf (missed ∷ []) 21 (finalVolumes (missed ∷ []) 21) (priceOf 30 still 11) ≡ negsuc 654
   pub two-misses : finalVolumes (missed ∷ missed ∷ []) 50 ≡ 16 ∷ 17 ∷ 17 ∷ []
-  pub ten-days-late : interestOn (newItem Price 0 4850) 40 ≡ 0
-  pub eleven-days-late : interestOn (newItem Price 0 4850) 41 ≡ 13
+  pub ten-days-late : interestOn (newItem [] Price 0 4850) 40 ≡ 0
+  pub eleven-days-late : interestOn (newItem [] Price 0 4850) 41 ≡ 13

@@ -1,5 +1,6 @@
-// Document 01's worked figures that are not starred, and the edges of the calendar, a line each.
+// Document 01's worked figures that are not starred, the edges of the calendar, and due days by lists of closed days, a line each.
 ghost use Prim.Native.Nat.{_≤_};
+use account::Account;
 use calendar::Date;
 use calendar::Day;
 use calendar::FoundDate;
@@ -24,6 +25,8 @@ fn main() {
     range();
     dates();
     days();
+    due_days();
+    lists();
 }
 
 fn prices() {
@@ -132,6 +135,50 @@ fn day_of(year: u32, month: u32, day: u32) {
         FoundDay::Day(found) => number(found.number as u64),
         FoundDay::None => text(b"none\n"),
     }
+}
+
+// Request a of document 02: the first day from obligation day + 30 on that isn't listed.
+fn due_days() {
+    let none = [0u16; 0];
+    due_by(&none, b"none", 0);
+    due_by(&none, b"none", 36_094);
+    due_by(&none, b"none", 36_095);
+    due_by(&[30], b"30", 0);
+    due_by(&[29], b"29", 0);
+    due_by(&[31], b"31", 0);
+    due_by(&[29, 30, 31, 33], b"29 30 31 33", 0);
+    due_by(&[29, 30, 31, 33], b"29 30 31 33", 1);
+    due_by(&[29, 30, 31, 33], b"29 30 31 33", 3);
+    due_by(&[29, 30, 31, 33], b"29 30 31 33", 4);
+    due_by(&[36_124, 36_524], b"36124 36524", 36_094);
+}
+
+fn lists() {
+    due_by(&[30, 30], b"30 30", 0);
+    due_by(&[31, 30], b"31 30", 0);
+    due_by(&[30, 36_525], b"30 36525", 0);
+    due_by(&[0, 36_524], b"0 36524", 0);
+}
+
+// The due day of what a first day's reading is charged, or the number that declines the opening.
+fn due_by(holidays: &[u16], list: &[u8], day: u16) {
+    text(b"closed ");
+    text(list);
+    text(b", of day ");
+    io::print_decimal(STDOUT_FILENO, day as u64);
+    let opened = Account::new().begin_supply(holidays, day, 0, 4);
+    if opened.answer.number != 0 {
+        text(b" is ");
+        number(opened.answer.number as u64);
+        return;
+    }
+    let account = opened.account;
+    let read = account.read_meter(holidays, day, 0, FUEL);
+    let charged = read.account;
+    let ledger = charged.ledger;
+    let item = ledger.items[0];
+    text(b" due ");
+    number(item.due as u64);
 }
 
 fn number(n: u64) {

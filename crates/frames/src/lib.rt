@@ -237,7 +237,7 @@ fn stopped_fields(input: &[u8], table: &[u64; 256], at: usize, kind: u8) -> Fiel
 }
 
 // A field of so many characters: its number, or 2^32 and more.
-fn field(input: &[u8], table: &[u64; 256], from: usize, width: usize) -> u64
+pub fn field(input: &[u8], table: &[u64; 256], from: usize, width: usize) -> u64
     requires { ⌜ FieldIn (now input) from width ⌝ }
     requires { ⌜ ValueTable (now table) ⌝ }
     ensures { λ r. ⌜ r ≡ readOf (take width (drop from (now (input .entry)))) ⌝ }

@@ -1,6 +1,6 @@
 -- What holds of every element of a list. Assumes nothing.
 use mathlib.Core.Path.{_≡_, refl, sym}
-use mathlib.Core.Bool.{Bool, true, _&&_, and-eq-true-iff, and-true}
+use mathlib.Core.Bool.{Bool, true, false, _&&_, and-eq-true-iff, and-true, and-false}
 use mathlib.Core.List.{List, [], _∷_, _++_, reverse, reverse-cons}
 use Prim.Native.Nat.{ℕ, zero, suc, _-_, _<_}
 use native.Mathlib.Nat.{not-suc-le-zero, le-of-suc-le-suc}
@@ -43,6 +43,11 @@ module _ {A : Type 0} (test : A → Bool) where
 
   pub every-behind : (xs ys : List A) → every test xs ≡ true → every test ys ≡ true → every test (xs ++ ys) ≡ true
   every-behind xs ys e f = true-every (xs ++ ys) (every-append (λ x. test x ≡ true) xs ys (every-true xs e) (every-true ys f))
+
+-- What fails behind fails of all.
+pub every-fails : {A : Type 0} (test : A → Bool) (xs ys : List A) → every test ys ≡ false → every test (xs ++ ys) ≡ false
+every-fails test [] ys e = e
+every-fails test (x ∷ xs) ys e = rw (every-fails test xs ys e) (and-false (test x))
 
 -- The test over a front of a list, with one element more.
 pub every-suc : {A : Type 0} (test : A → Bool) (xs : List A) (i : ℕ) (d : A) → i < length xs

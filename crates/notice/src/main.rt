@@ -7,7 +7,7 @@ use libc::STDOUT_FILENO;
 const LONGEST_NOTICES: usize = CAPACITY * NOTICE_LENGTH;
 
 fn main() {
-    let run = driver::feed_input(false);
+    let run = driver::serve(false);
     if !run.sound {
         return;
     }

@@ -49,15 +49,17 @@ const INTEREST: Item = Item {
     kind: Kind::Interest,
 };
 
-// The line of a payment of 1 yen on day 100.
+// The line of a payment of 1 yen on day 100, with no day closed.
 pub fn show(account: Account, name: &[u8]) {
-    line(account.pay(100, 1), name);
+    let none = [0u16; 0];
+    line(account.pay(&none, 100, 1), name);
 }
 
-// A call's number, that of a payment on the account that it handed back, and what was handed in.
+// A call's number, that of such a payment on the account that it handed back, and what was handed in.
 pub fn line(outcome: Outcome, name: &[u8]) {
+    let none = [0u16; 0];
     let back = outcome.account;
-    let again = back.pay(100, 1);
+    let again = back.pay(&none, 100, 1);
     number(outcome.answer.number);
     number(again.answer.number);
     text(name);

@@ -1,4 +1,5 @@
-// Number 41: accounts with one field made wrong, and whole ones beside them. Document 01, "The account and its calls".
+// Numbers 41 and 14: accounts with one field made wrong, and whole ones beside them, by a list of closed days that is one and by one that is not.
+// Document 01, "The account and its calls"; document 02, request a.
 //
 // A line has the number of a call, the number of a payment on the account that it handed back, and what was handed in.
 // The call is a payment of 1 yen on day 100 where nothing else is named.
@@ -39,6 +40,7 @@ fn main() {
     item_counts();
     balances();
     calls();
+    lists();
 }
 
 fn statuses() {
@@ -66,8 +68,8 @@ fn statuses() {
 }
 
 fn meters() {
-    show(with_latest(36_494), b"latest day 36494");
-    show(with_latest(36_495), b"latest day 36495");
+    show(with_latest(36_094), b"latest day 36094");
+    show(with_latest(36_095), b"latest day 36095");
     show(with_dial(0, 0), b"0 digits");
     show(with_dial(3, 130), b"3 digits");
     show(with_dial(5, 130), b"5 digits");
@@ -166,29 +168,41 @@ fn balances() {
 
 // Each call on a whole account that allows it, then on one account that is not whole.
 fn calls() {
+    let none = [0u16; 0];
     text(b"a new account\n");
-    other_calls(Account::new());
+    other_calls(Account::new(), &none);
     text(b"a stopped account\n");
-    other_calls(with_status(Status::Stopped { stop: 90 }));
+    other_calls(with_status(Status::Stopped { stop: 90 }), &none);
     text(b"a supplied account\n");
-    supplied_calls(supplied());
+    supplied_calls(supplied(), &none);
     text(b"a supplied account with pool 100000\n");
-    supplied_calls(with_pool(100_000));
-    other_calls(with_pool(100_000));
+    supplied_calls(with_pool(100_000), &none);
+    other_calls(with_pool(100_000), &none);
 }
 
-fn other_calls(account: Account) {
-    line(account.begin_supply(100, 0, 4), b"01");
-    line(account.reconnect(100, 0, 4), b"07");
-    line(account.cancel_stopped(100), b"0a");
+// 14 comes before 41 and before 1, and leaves the account as it was: what a payment by no list then meets.
+fn lists() {
+    let equal = [5u16, 5];
+    text(b"two equal days, a supplied account\n");
+    supplied_calls(supplied(), &equal);
+    other_calls(supplied(), &equal);
+    text(b"two equal days, a supplied account with pool 100000\n");
+    supplied_calls(with_pool(100_000), &equal);
+    other_calls(with_pool(100_000), &equal);
 }
 
-fn supplied_calls(account: Account) {
-    line(account.read_meter(100, 140, FUEL), b"02");
-    line(account.miss_reading(100, FUEL), b"03");
-    line(account.note_absence(100, FUEL), b"04");
-    line(account.exchange_meter(100, 140, 0, 4), b"05");
-    line(account.disconnect(100, 140, FUEL), b"06");
-    line(account.cancel(100, 140, FUEL), b"08");
-    line(account.pay(100, 1), b"09");
+fn other_calls(account: Account, holidays: &[u16]) {
+    line(account.begin_supply(holidays, 100, 0, 4), b"01");
+    line(account.reconnect(holidays, 100, 0, 4), b"07");
+    line(account.cancel_stopped(holidays, 100), b"0a");
+}
+
+fn supplied_calls(account: Account, holidays: &[u16]) {
+    line(account.read_meter(holidays, 100, 140, FUEL), b"02");
+    line(account.miss_reading(holidays, 100, FUEL), b"03");
+    line(account.note_absence(holidays, 100, FUEL), b"04");
+    line(account.exchange_meter(holidays, 100, 140, 0, 4), b"05");
+    line(account.disconnect(holidays, 100, 140, FUEL), b"06");
+    line(account.cancel(holidays, 100, 140, FUEL), b"08");
+    line(account.pay(holidays, 100, 1), b"09");
 }

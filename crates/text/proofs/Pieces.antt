@@ -129,7 +129,7 @@ unfolding linesFrom
 last-none [] e = refl
 last-none (c ∷ cs) e = absurd (suc-ne-zero (length cs) e)
 
-last-line : (part : List ℕ) → (length part ≡ 0 → ⊥) → linesFrom part [] ≡ part ∷ []
+pub last-line : (part : List ℕ) → (length part ≡ 0 → ⊥) → linesFrom part [] ≡ part ∷ []
 unfolding linesFrom
 last-line [] n = absurd (n refl)
 last-line (c ∷ cs) n = refl

@@ -6,20 +6,20 @@ use Rattle.driver.proofs.end_input.Statement.{statement}
 use Rattle.driver.proofs.end_input.Tie as tie
 
 -- what was written is within the room, which is as long as it was
-within : (c : tie.After-finish) → c .finish .result .written ≤ length (c .finish .last .1 .0)
-within c = omega (arith, c .finish .kept .1 .0, c .finish .ensures .1 .1)
+within : (c : tie.After-finish) → c .finish .result .written ≤ length (c .finish .last .1 .1 .0)
+within c = omega (arith, c .finish .kept .1 .1 .0, c .finish .ensures .1 .1)
 
 slice-aggregate-print : tie.Need-slice-aggregate-print
 slice-aggregate-print c =
     let ended : tie.After-finish = search in
-    sym (length-take-le (ended .finish .result .written) (ended .finish .last .1 .0) (within ended))
+    sym (length-take-le (ended .finish .result .written) (ended .finish .last .1 .1 .0) (within ended))
 
 returns : tie.Need-returns
 returns c = λ b.
     let start : tie.Start = search in
     let ended : tie.After-finish = search in
     let state-is = ap (λ (f : Fed). f .state) (ended .finish .ensures .0) in
-    subst (AtEnd (b .seen)) (sym state-is) (follows-end (b .seen) (start .args .state) _ (omega arith) (b .follows))
+    subst (AtEnd (start .args .holidays .now) (b .seen)) (sym state-is) (follows-end (start .args .holidays .now) (b .seen) (start .args .state) _ (omega arith) (b .follows))
 
 pub end-input-spec : {M : Type 1} → statement M
 end-input-spec =

@@ -1,6 +1,6 @@
 -- Invariant: the state follows what was seen before the block with the block up to `at`. There is room for a line, so feeding the rest of
 -- the block takes some of it (`taken-some`), and the state follows the block up to the place behind (`follows-on`).
-use Rattle.common.proofs.Words.{_≡_, sym, ap, subst, _∙_, false≢true, List, _++_, append-assoc, append-nil, ℕ, _+_, _-_, _≤_, arith, length}
+use Rattle.common.proofs.Words.{_≡_, sym, ap, subst, _∙_, false≢true, List, _++_, append-assoc, append-nil, ℕ, _+_, _-_, _≤_, _<_, arith, length}
 use Rattle.common.proofs.Words.{take, drop, length-drop, length-take-le, take-all, take-add, needs}
 use Rattle.lines.specs.{declared.Fed.Fed, Feeding.feeding}
 use Rattle.lines.proofs.Feeding.{taken-some}
@@ -11,16 +11,16 @@ use Rattle.driver.proofs.feed_block.Statement.{statement}
 use Rattle.driver.proofs.feed_block.Tie as tie
 
 abbrev Inv-loop : tie.InvT-loop
-Inv-loop block is-printing state₀ out₀ at₀ state out at =
+Inv-loop holidays block is-printing state₀ out₀ at₀ state out at =
     record {
       within : at ≤ length block;
       out-long : length out ≡ 65536;
-      ready : Ready state;
-      follows : (b : Behind state₀) → Follows (b .seen ++ take at block) state;
+      ready : Ready holidays state;
+      follows : (b : Behind holidays state₀) → Follows holidays (b .seen ++ take at block) state;
     }
 
 abbrev μ-loop : tie.MeasureT-loop
-μ-loop block is-printing state₀ out₀ at₀ state out at = length block - at
+μ-loop holidays block is-printing state₀ out₀ at₀ state out at = length block - at
 
 abbrev Walk : (tie.InvT-loop → tie.MeasureT-loop → Type 0) → Type 0
 Walk T = T Inv-loop μ-loop
@@ -30,16 +30,22 @@ seen-on : (seen block : List ℕ) (at n : ℕ) {rest : List ℕ} → rest ≡ dr
     → (seen ++ take at block) ++ take n rest ≡ seen ++ take (at + n) block
 seen-on seen block at n e = rw (e, append-assoc, take-add at n block)
 
+block-small : (s : Walk tie.Start) → length (s .args .block .now) < 18446744073709551616
+block-small s = omega arith
+
 -- The rest of the block is fed.
 module _ (c : Walk tie.After-feed) where
   abbrev l : Walk tie.At-loop
   l = c .before .before .before .before
 
   abbrev s : Walk tie.Start
-  s = l .before .before .before
+  s = l .before .before .before .before
 
   abbrev block : List ℕ
   block = s .args .block .now
+
+  abbrev holidays : List ℕ
+  holidays = s .args .holidays .now
 
   abbrev at : ℕ
   at = l .loop .at
@@ -56,10 +62,10 @@ module _ (c : Walk tie.After-feed) where
   rest-long : length rest ≡ length block - at
   rest-long = ap length rest-is ∙ length-drop at block
 
-  out-long : length (c .feed .last .1 .1 .0) ≡ 65536
+  out-long : length (c .feed .last .1 .1 .1 .0) ≡ 65536
   out-long = search needs
 
-  written-most : fed .written ≤ length (c .feed .last .1 .1 .0)
+  written-most : fed .written ≤ length (c .feed .last .1 .1 .1 .0)
   written-most = omega (arith, out-long, l .loop .inv .out-long, c .feed .ensures .1 .1 .0 .1)
 
   onward : at + fed .taken ≤ length block
@@ -68,19 +74,19 @@ module _ (c : Walk tie.After-feed) where
   some : 1 ≤ fed .taken
   some =
       rw (ap (λ (f : Fed). f .taken) (c .feed .ensures .0))
-      (taken-some (length (l .loop .out)) (l .loop .state) rest (rw (l .loop .inv .out-long) (omega arith)) (rw rest-long (omega arith)))
+      (taken-some holidays (length (l .loop .out)) (l .loop .state) rest (rw (l .loop .inv .out-long) (omega arith)) (rw rest-long (omega arith)))
 
-  follows : (b : Behind (s .args .state)) → Follows (b .seen ++ take (at + fed .taken) block) (fed .state)
+  follows : (b : Behind holidays (s .args .state)) → Follows holidays (b .seen ++ take (at + fed .taken) block) (fed .state)
   follows b =
       let room = length (l .loop .out) in
-      let next = follows-on (b .seen ++ take at block) (l .loop .state) room rest (l .loop .inv .follows b) in
-      subst (λ (f : Fed). Follows (b .seen ++ take (at + f .taken) block) (f .state)) (sym (c .feed .ensures .0))
-      (rw (← seen-on (b .seen) block at (feeding room (l .loop .state) rest .taken) rest-is) next)
+      let next = follows-on holidays (b .seen ++ take at block) (l .loop .state) room rest (l .loop .inv .follows b) in
+      subst (λ (f : Fed). Follows holidays (b .seen ++ take (at + f .taken) block) (f .state)) (sym (c .feed .ensures .0))
+      (rw (← seen-on (b .seen) block at (feeding holidays room (l .loop .state) rest .taken) rest-is) next)
 
 slice-aggregate-print : Walk tie.Need-slice-aggregate-print
 slice-aggregate-print c =
     let f : Walk tie.After-feed = search in
-    sym (length-take-le (fed f .written) (f .feed .last .1 .1 .0) (written-most f))
+    sym (length-take-le (fed f .written) (f .feed .last .1 .1 .1 .0) (written-most f))
 
 loop-again : Walk tie.Need-loop-again
 loop-again c =
@@ -103,7 +109,7 @@ feed-block-spec =
     (λ c. record {
       within = omega arith;
       out-long = sym (c .large-buffer .ensures);
-      ready = behind-ready (c .before .before .pre);
+      ready = let s : Walk tie.Start = search in behind-ready (s .pre);
       follows = λ b. rw (append-nil (b .seen)) (b .follows);
     })  -- loop-holds
     (λ c. omega arith)  -- sub-feed
@@ -111,7 +117,7 @@ feed-block-spec =
     (λ c. omega arith)  -- part-feed-end
     (λ c. let l : Walk tie.At-loop = search in sym (l .loop .inv .out-long))  -- slice-aggregate-feed
     (λ c κs. let l : Walk tie.At-loop = search in l .loop .inv .ready)  -- feed-requires
-    (λ c. omega (arith, onward (c .before .before .before)))  -- add-at
+    (λ c. let f : Walk tie.After-feed = search in omega (arith, onward f, block-small (s f)))  -- add-at
     (λ c. let f : Walk tie.After-feed = search in written-most f)  -- array-share-prefix-out
     slice-aggregate-print
     (λ c κs. tt)  -- print-requires

@@ -7,10 +7,11 @@ use Rattle.driver.proofs.feed_input.Statement.{statement}
 use Rattle.driver.proofs.feed_input.Tie as tie
 
 abbrev Inv-loop : tie.InvT-loop
-Inv-loop is-printing state₀ block₀ turns₀ t8 state block turns = record { block-long : length block ≡ 65536; behind : Behind state }
+Inv-loop holidays is-printing state₀ block₀ turns₀ t8 state block turns =
+    record { block-long : length block ≡ 65536; behind : Behind holidays state }
 
 abbrev μ-loop : tie.MeasureT-loop
-μ-loop is-printing state₀ block₀ turns₀ t8 state block turns = turns
+μ-loop holidays is-printing state₀ block₀ turns₀ t8 state block turns = turns
 
 abbrev Walk : (tie.InvT-loop → tie.MeasureT-loop → Type 0) → Type 0
 Walk T = T Inv-loop μ-loop
@@ -45,7 +46,7 @@ feed-input-spec =
     (λ c κs. search needs)  -- large-buffer-requires
     (λ c. record {
       block-long = sym (c .large-buffer .ensures);
-      behind = record { seen = []; follows = rw (c .before .new .ensures) follows-start };
+      behind = record { seen = []; follows = rw (c .before .new .ensures) (follows-start _) };
     })  -- loop-holds
     (λ c. search needs)  -- sub-turns
     (λ c. search needs)  -- slice-aggregate-read

@@ -14,7 +14,7 @@ pub main-spec : {M : Type 1} → statement M
 main-spec =
     tie.close
     (tie.spec
-    (λ c κs. search needs)  -- feed-input-requires
+    (λ c κs. search needs)  -- serve-requires
     (λ c. search needs)  -- returns
     (λ c. search needs)  -- slice-aggregate-put-notices
     (λ c κs. search needs)  -- put-notices-requires

@@ -1,0 +1,2 @@
+-- Laws of the file `closed`.
+pub mod ClosedFile

@@ -1,0 +1,3 @@
+-- The file `closed`.
+pub mod ClosedFile
+pub mod Reading

@@ -1,0 +1,2 @@
+-- What a run of the programs leaves.
+pub mod Runs
