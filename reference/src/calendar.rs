@@ -4,8 +4,9 @@
 pub const FIRST_DAY: u32 = 0;
 /// 31 December 2099.
 pub const LAST_DAY: u32 = 36_524;
-/// The last day a call may have (number 2).
-pub const LAST_CALL_DAY: u32 = 36_494;
+/// The last day a call may have (number 2): its due day can be moved over 400
+/// closed days and is still a day.
+pub const LAST_CALL_DAY: u32 = 36_094;
 
 const FIRST_YEAR: u32 = 2000;
 const LAST_YEAR: u32 = 2099;

@@ -3,38 +3,40 @@
 
 use crate::account::{Account, Status};
 use crate::book::Book;
-use crate::calendar::LAST_CALL_DAY;
+use crate::calendar::{LAST_CALL_DAY, LAST_DAY};
 use crate::calls::{self, Answer, Call, What};
+use crate::closed::{self, Closed, MOST_CLOSED, TERM};
 use crate::frames;
-use crate::ledger::{MOST_CREDIT, MOST_ITEMS};
+use crate::ledger::{Item, Kind, MOST_CREDIT, MOST_ITEMS};
 use crate::meter::{self, MOST_POOL};
 use crate::notices;
 use crate::rule::Rule;
 
 /// The other side of the comparison.
 pub trait Other {
-    fn bill(&mut self, input: &[u8], out: &mut Vec<u8>);
-    fn notice(&mut self, input: &[u8], out: &mut Vec<u8>);
+    fn bill(&mut self, input: &[u8], closed: &Closed, out: &mut Vec<u8>);
+    fn notice(&mut self, input: &[u8], closed: &Closed, out: &mut Vec<u8>);
 }
 
 /// The reference itself as the other side.
 pub struct Itself;
 
 impl Other for Itself {
-    fn bill(&mut self, input: &[u8], out: &mut Vec<u8>) {
-        out.extend_from_slice(&crate::bill(input, Rule::Right));
+    fn bill(&mut self, input: &[u8], closed: &Closed, out: &mut Vec<u8>) {
+        out.extend_from_slice(&crate::bill(input, closed.list(), Rule::Right));
     }
 
-    fn notice(&mut self, input: &[u8], out: &mut Vec<u8>) {
-        out.extend_from_slice(&crate::notice(input, Rule::Right));
+    fn notice(&mut self, input: &[u8], closed: &Closed, out: &mut Vec<u8>) {
+        out.extend_from_slice(&crate::notice(input, closed.list(), Rule::Right));
     }
 }
 
 /// The numbers that a line can reach.
-pub const REACHABLE: [u8; 15] = [0, 1, 2, 3, 4, 5, 6, 7, 8, 9, 10, 11, 12, 13, 40];
+pub const REACHABLE: [u8; 16] = [0, 1, 2, 3, 4, 5, 6, 7, 8, 9, 10, 11, 12, 13, 14, 40];
 
-/// A call with the account before and after it.
+/// A call with the closed days and the account before and after it.
 struct Step<'a> {
+    closed: &'a [u16],
     before: &'a Account,
     call: &'a Call,
     after: &'a Account,
@@ -44,14 +46,14 @@ struct Step<'a> {
 type Edge = fn(&Step) -> bool;
 
 /// Edges that accepted calls reach.
-pub const EDGES: [(&str, EdgeTest); 17] = [
+pub const EDGES: [(&str, EdgeTest); 27] = [
     ("72 items open", EdgeTest(|s| s.after.ledger.items.len() == MOST_ITEMS)),
     ("six estimates stand", EdgeTest(|s| s.after.estimates.len() == 6)),
     ("advance of half the span", EdgeTest(|s| turned(s) == Some(meter::span(s.before.digits) / 2))),
     ("dial rolls over", EdgeTest(|s| reached(s.call).is_some_and(|dial| dial < s.before.dial))),
     ("pool of 99,999", EdgeTest(pool_is_full)),
     ("credit of 999,999,999", EdgeTest(|s| s.after.ledger.credit == MOST_CREDIT)),
-    ("day 36,494", EdgeTest(|s| s.call.day == LAST_CALL_DAY)),
+    ("day 36,094", EdgeTest(|s| s.call.day == LAST_CALL_DAY)),
     ("resumption on the stop day", EdgeTest(resumed_on_stop_day)),
     ("net below zero", EdgeTest(|s| s.answer.net < 0)),
     ("three or more final at once", EdgeTest(|s| s.answer.finals.len() >= 3)),
@@ -71,6 +73,25 @@ pub const EDGES: [(&str, EdgeTest); 17] = [
     ),
     ("interest of 08's own settling", EdgeTest(cancelled_with_own_interest)),
     ("credit used by a closing", EdgeTest(|s| s.before.ledger.credit > 0 && s.answer.net > 0)),
+    ("due day moved", EdgeTest(|s| posts(s, |item| moved_by(item) > 0))),
+    (
+        "due day of interest moved",
+        EdgeTest(|s| posts(s, |item| item.kind == Kind::Interest && moved_by(item) > 0)),
+    ),
+    ("due day moved by 400", EdgeTest(|s| posts(s, |item| moved_by(item) == MOST_CLOSED as u32))),
+    ("due day 36,524", EdgeTest(|s| posts(s, |item| item.due == LAST_DAY))),
+    ("due day kept, the day before closed", EdgeTest(|s| kept_beside(s, TERM - 1))),
+    ("due day kept, the day after closed", EdgeTest(|s| kept_beside(s, TERM + 1))),
+    ("10 days late from a moved day", EdgeTest(|s| settles(s, |item| late(s, item.due) == 10))),
+    ("11 days late from a moved day", EdgeTest(|s| settles(s, |item| late(s, item.due) == 11))),
+    (
+        "moved, 10 days late if it weren't",
+        EdgeTest(|s| settles(s, |item| late(s, item.obligation + TERM) == 10)),
+    ),
+    (
+        "moved, 11 days late if it weren't",
+        EdgeTest(|s| settles(s, |item| late(s, item.obligation + TERM) == 11)),
+    ),
 ];
 
 /// A named test of a step.
@@ -112,6 +133,41 @@ fn is_payment(call: &Call) -> bool {
 fn cancelled_with_own_interest(step: &Step) -> bool {
     matches!(step.call.what, What::Cancellation { .. })
         && step.answer.interest > step.before.ledger.held
+}
+
+/// Whether the call posts an item that passes the test and stands open.
+fn posts(step: &Step, test: impl Fn(&Item) -> bool) -> bool {
+    let of_today = |item: &&Item| item.obligation == step.call.day;
+    (step.answer.net > 0 || step.answer.interest > 0)
+        && step.after.ledger.items.iter().filter(of_today).any(test)
+}
+
+/// Days that closed days moved the due day.
+fn moved_by(item: &Item) -> u32 {
+    item.due - item.obligation - TERM
+}
+
+/// Whether an item keeps its due day and the day so long after its obligation
+/// day is closed.
+fn kept_beside(step: &Step, term: u32) -> bool {
+    posts(step, |item| moved_by(item) == 0) && closed::is_listed(step.call.day + term, step.closed)
+}
+
+/// Whether the call settles a price item with a moved due day that passes the
+/// test. No two price items have the same obligation day.
+fn settles(step: &Step, test: impl Fn(&Item) -> bool) -> bool {
+    let stands = |item: &Item| {
+        let same = |other: &Item| other.kind == item.kind && other.obligation == item.obligation;
+        step.after.ledger.items.iter().any(same)
+    };
+    let moved = |item: &&Item| item.kind == Kind::Price && moved_by(item) > 0;
+    let mut candidates = step.before.ledger.items.iter().filter(moved);
+    candidates.any(|item| test(item) && !stands(item))
+}
+
+/// Days from a due day to the call, 0 before it.
+fn late(step: &Step, due: u32) -> u32 {
+    step.call.day.saturating_sub(due)
 }
 
 /// What was reached.
@@ -210,20 +266,21 @@ impl Checker {
     pub fn check(
         &mut self,
         input: &[u8],
+        closed: &Closed,
         other: &mut dyn Other,
         rule: Rule,
         counts: &mut Counts,
     ) -> Result<(), Failure> {
-        let sums = self.walk(input, rule, counts);
+        let sums = self.walk(input, closed.list(), rule, counts);
         self.other.clear();
-        other.bill(input, &mut self.other);
+        other.bill(input, closed, &mut self.other);
         same(&self.bill, &self.other).map_err(|(line, expected, given)| Failure::Bill {
             line,
             expected,
             given,
         })?;
         self.other.clear();
-        other.notice(input, &mut self.other);
+        other.notice(input, closed, &mut self.other);
         same(&self.notice, &self.other).map_err(|(line, expected, given)| Failure::Notice {
             line,
             expected,
@@ -233,23 +290,29 @@ impl Checker {
     }
 
     /// Walks the reference and the book; writes the reference's outputs.
-    fn walk(&mut self, input: &[u8], rule: Rule, counts: &mut Counts) -> Result<(), Failure> {
+    fn walk(
+        &mut self,
+        input: &[u8],
+        closed: &[u16],
+        rule: Rule,
+        counts: &mut Counts,
+    ) -> Result<(), Failure> {
         self.bill.clear();
         self.notice.clear();
         let mut account = Account::new();
-        let mut book = Sums::new();
+        let mut book = Sums::new(closed);
         let mut result = Ok(());
         for (place, line) in frames::lines(input).enumerate() {
             let call = frames::parse(line);
             let before = account.clone();
-            let (after, answer) = calls::take(account, call, rule);
+            let (after, answer) = calls::take(account, call, closed, rule);
             account = after;
             frames::write_answer(&answer, &mut self.bill);
             counts.count(answer.number);
             if let Some(call) = call {
                 if answer.number == 0 {
-                    let step =
-                        Step { before: &before, call: &call, after: &account, answer: &answer };
+                    let (before, after) = (&before, &account);
+                    let step = Step { closed, before, call: &call, after, answer: &answer };
                     counts.count_edges(&step);
                 }
                 book.feed(&call, &answer);
@@ -270,8 +333,8 @@ struct Sums {
 }
 
 impl Sums {
-    fn new() -> Sums {
-        Sums { book: Book::new(), finals: 0 }
+    fn new(closed: &[u16]) -> Sums {
+        Sums { book: Book::new(closed), finals: 0 }
     }
 
     fn feed(&mut self, call: &Call, answer: &Answer) {

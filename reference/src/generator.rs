@@ -4,8 +4,10 @@
 use crate::account::{Account, Status};
 use crate::calendar::LAST_CALL_DAY;
 use crate::calls::{self, Call, What};
+use crate::closed::{self, Closed};
 use crate::frames;
 use crate::ledger::MOST_PAYMENT;
+use crate::lists;
 use crate::meter;
 use crate::profiles::PROFILES;
 use crate::rule::Rule;
@@ -54,26 +56,41 @@ pub fn seed_of(seed: u64, index: u64) -> u64 {
     numbers.draw()
 }
 
-/// One life: its profile's place and its input.
+/// One life: the places of its profile and of its kind of list, its input and
+/// its closed days.
 pub struct Life {
     pub profile: usize,
+    pub list: usize,
     pub input: Vec<u8>,
+    pub closed: Closed,
 }
 
 /// The life with a number, always the same for a seed.
 pub fn life(seed: u64, index: u64) -> Life {
-    let mut maker = Maker::new(seed_of(seed, index));
-    let profile = pick_profile(&mut maker.numbers);
-    (PROFILES[profile].2)(&mut maker);
-    Life { profile, input: maker.finish() }
+    let seed = seed_of(seed, index);
+    let (profile, plain) = lines(seed, &[]);
+    let (list, closed) = lists::list(seed, PROFILES[profile].0, &plain);
+    // The days of the life without a list tell which days to close. A profile
+    // then aims with the list; a broken one leaves the lines as they were.
+    let aims = !closed.list().is_empty() && closed::allowed(closed.list());
+    let input = if aims { lines(seed, closed.list()).1 } else { plain };
+    Life { profile, list, input, closed }
 }
 
-fn pick_profile(numbers: &mut Numbers) -> usize {
-    let total: u32 = PROFILES.iter().map(|profile| profile.1).sum();
-    let mut left = numbers.below(total);
+/// A profile's place and its lines.
+fn lines(seed: u64, closed: &[u16]) -> (usize, Vec<u8>) {
+    let mut maker = Maker::with_closed(seed, closed);
+    let profile = pick(&mut maker.numbers, &PROFILES.map(|profile| profile.1));
+    (PROFILES[profile].2)(&mut maker);
+    (profile, maker.finish())
+}
+
+/// A place, each as often as its weight tells.
+pub fn pick(numbers: &mut Numbers, weights: &[u32]) -> usize {
+    let mut left = numbers.below(weights.iter().sum());
     let mut place = 0;
-    while left >= PROFILES[place].1 {
-        left -= PROFILES[place].1;
+    while left >= weights[place] {
+        left -= weights[place];
         place += 1;
     }
     place
@@ -88,11 +105,23 @@ pub struct Maker {
     /// Lines so far.
     pub lines: usize,
     input: Vec<u8>,
+    closed: Vec<u16>,
 }
 
 impl Maker {
     pub fn new(seed: u64) -> Maker {
-        Maker { numbers: Numbers::new(seed), account: Account::new(), lines: 0, input: Vec::new() }
+        Maker::with_closed(seed, &[])
+    }
+
+    /// A maker whose account is called with closed days.
+    pub fn with_closed(seed: u64, closed: &[u16]) -> Maker {
+        Maker {
+            numbers: Numbers::new(seed),
+            account: Account::new(),
+            lines: 0,
+            input: Vec::new(),
+            closed: closed.to_vec(),
+        }
     }
 
     /// The input, each line with its LF.
@@ -114,7 +143,8 @@ impl Maker {
         self.input.push(b'\n');
         self.lines += 1;
         let account = std::mem::take(&mut self.account);
-        let (account, answer) = calls::take(account, frames::parse(line), Rule::Right);
+        let (account, answer) =
+            calls::take(account, frames::parse(line), &self.closed, Rule::Right);
         self.account = account;
         answer.number
     }

@@ -1,12 +1,11 @@
 //! Open items, credit and interest held (articles 20(1), 27, 28).
 
+use crate::closed::{self, TERM};
 use crate::rule::Rule;
 
 pub const MOST_ITEMS: usize = 72;
 pub const MOST_CREDIT: u64 = 999_999_999;
 pub const MOST_PAYMENT: u32 = 99_999_999;
-/// Days from obligation day to due day (H).
-pub const TERM: u32 = 30;
 
 #[derive(Clone, Copy, Debug, PartialEq, Eq)]
 pub enum Kind {
@@ -21,6 +20,15 @@ pub struct Item {
     pub unpaid: u64,
     pub obligation: u32,
     pub due: u32,
+}
+
+/// The due day of an item posted on a day.
+pub fn due_day(obligation: u32, closed: &[u16], rule: Rule) -> u32 {
+    if rule == Rule::ListedKept {
+        obligation + TERM
+    } else {
+        closed::due_day(obligation, closed)
+    }
 }
 
 /// The interest of a price item settled on a day (27).
@@ -47,23 +55,23 @@ impl Ledger {
         self.items.iter().map(|item| item.unpaid).sum()
     }
 
-    fn post(&mut self, kind: Kind, amount: u64, day: u32) {
-        self.items.push(Item { kind, amount, unpaid: amount, obligation: day, due: day + TERM });
+    fn post(&mut self, kind: Kind, amount: u64, day: u32, due: u32) {
+        self.items.push(Item { kind, amount, unpaid: amount, obligation: day, due });
     }
 
     /// Posts interest held, if any; gives what it posted.
-    pub fn post_held(&mut self, day: u32) -> u64 {
+    pub fn post_held(&mut self, day: u32, due: u32) -> u64 {
         let posted = std::mem::take(&mut self.held);
         if posted > 0 {
-            self.post(Kind::Interest, posted, day);
+            self.post(Kind::Interest, posted, day, due);
         }
         posted
     }
 
     /// A net above zero is a price item, one below zero adds to credit (20(1)).
-    pub fn post_net(&mut self, net: i64, day: u32) {
+    pub fn post_net(&mut self, net: i64, day: u32, due: u32) {
         if net > 0 {
-            self.post(Kind::Price, net.unsigned_abs(), day);
+            self.post(Kind::Price, net.unsigned_abs(), day, due);
         } else {
             self.credit += net.unsigned_abs();
         }
@@ -88,6 +96,15 @@ impl Ledger {
 fn interest_of(settled: &Item, day: u32, rule: Rule) -> u64 {
     match settled.kind {
         Kind::Interest => 0,
-        Kind::Price => interest(settled.amount, settled.due, day, rule),
+        Kind::Price => interest(settled.amount, late_from(settled, rule), day, rule),
+    }
+}
+
+/// The day that late days are counted from.
+fn late_from(item: &Item, rule: Rule) -> u32 {
+    if rule == Rule::UnmovedLate {
+        item.obligation + TERM
+    } else {
+        item.due
     }
 }

@@ -6,6 +6,7 @@ pub mod book;
 pub mod calendar;
 pub mod calls;
 pub mod check;
+pub mod closed;
 pub mod fast;
 pub mod frames;
 pub mod generator;
@@ -13,6 +14,7 @@ pub mod households;
 pub mod ledger;
 #[cfg(feature = "linked")]
 pub mod linked;
+pub mod lists;
 pub mod meter;
 pub mod notices;
 pub mod process;
@@ -24,23 +26,23 @@ pub mod tariff;
 use account::Account;
 use rule::Rule;
 
-/// What `bill` writes for an input.
-pub fn bill(input: &[u8], rule: Rule) -> Vec<u8> {
+/// What `bill` writes for an input and a list of closed days.
+pub fn bill(input: &[u8], closed: &[u16], rule: Rule) -> Vec<u8> {
     let mut out = Vec::new();
     let mut account = Account::new();
     for line in frames::lines(input) {
-        let (next, answer) = calls::take(account, frames::parse(line), rule);
+        let (next, answer) = calls::take(account, frames::parse(line), closed, rule);
         account = next;
         frames::write_answer(&answer, &mut out);
     }
     out
 }
 
-/// What `notice` writes for an input.
-pub fn notice(input: &[u8], rule: Rule) -> Vec<u8> {
+/// What `notice` writes for an input and a list of closed days.
+pub fn notice(input: &[u8], closed: &[u16], rule: Rule) -> Vec<u8> {
     let mut account = Account::new();
     for line in frames::lines(input) {
-        account = calls::take(account, frames::parse(line), rule).0;
+        account = calls::take(account, frames::parse(line), closed, rule).0;
     }
     let mut out = Vec::new();
     notices::write_notices(&account, &mut out);

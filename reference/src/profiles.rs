@@ -3,6 +3,7 @@
 
 use crate::calendar::LAST_CALL_DAY;
 use crate::calls::{Call, What};
+use crate::closed::TERM;
 use crate::frames;
 use crate::generator::Maker;
 use crate::ledger::{MOST_CREDIT, MOST_ITEMS, MOST_PAYMENT};
@@ -11,8 +12,11 @@ use crate::tariff::Fuel;
 
 pub type Profile = fn(&mut Maker);
 
+/// A name that lists of closed days go by.
+pub const END_OF_CALENDAR: &str = "end of calendar";
+
 /// Name, weight and maker of each profile.
-pub const PROFILES: [(&str, u32, Profile); 22] = [
+pub const PROFILES: [(&str, u32, Profile); 23] = [
     ("monthly", 12, monthly),
     ("late payer", 8, late_payer),
     ("misses", 10, misses),
@@ -28,13 +32,14 @@ pub const PROFILES: [(&str, u32, Profile); 22] = [
     ("pool limit", 4, pool_limit),
     ("credit limit", 4, credit_limit),
     ("credit limit by net", 3, credit_limit_by_net),
-    ("end of calendar", 3, end_of_calendar),
+    (END_OF_CALENDAR, 5, end_of_calendar),
     ("zero days", 3, zero_days),
     ("stop and resume", 4, stop_and_resume),
     ("late cancellation", 4, late_cancellation),
     ("after cancellation", 4, after_cancellation),
     ("far days", 3, far_days),
     ("long", 1, long),
+    ("ten days late", 4, ten_days_late),
 ];
 
 // ---- Plausible lives ----
@@ -283,7 +288,7 @@ fn wrong_status(m: &mut Maker) {
 
 /// Calls with two or more things wrong at once: the first number wins.
 fn two_causes(m: &mut Maker) {
-    m.open(36_400);
+    m.open(36_000);
     for _ in 0..m.numbers.between(2, 8) {
         let (day, advance) = (m.after(1, 10), m.volume());
         m.read(day, advance);
@@ -536,7 +541,7 @@ fn fill_pool(m: &mut Maker) {
 // ---- Lives at the limits of days ----
 
 fn end_of_calendar(m: &mut Maker) {
-    let day = m.numbers.between(36_300, 36_494);
+    let day = m.numbers.between(LAST_CALL_DAY - 194, LAST_CALL_DAY);
     let digits = m.digits();
     m.open_on(day, digits);
     for _ in 0..m.numbers.between(15, 60) {
@@ -551,6 +556,30 @@ fn end_of_calendar(m: &mut Maker) {
             0 => m.pay_some(day),
             _ => m.close(day),
         };
+    }
+    m.end();
+}
+
+/// Items paid 9 to 12 days after their due day, or after the day that would be
+/// due day if none were closed.
+fn ten_days_late(m: &mut Maker) {
+    m.open(25_000);
+    let mut closing = m.now();
+    for _ in 0..m.numbers.between(3, 20) {
+        closing += m.numbers.between(50, 100);
+        let (day, advance) = (closing.max(m.now()), m.volume());
+        if m.numbers.chance(4) {
+            m.cancel(day, advance);
+        } else {
+            m.read(day, advance);
+        }
+        let Some(oldest) = m.account.ledger.items.first().copied() else {
+            continue;
+        };
+        let from = if m.numbers.chance(60) { oldest.due } else { oldest.obligation + TERM };
+        let day = (from + m.numbers.pick(&[9, 10, 10, 11, 11, 12])).max(m.now());
+        let yen = m.numbers.pick(&[oldest.unpaid as u32, m.unpaid(), m.unpaid()]);
+        m.pay(day, yen);
     }
     m.end();
 }

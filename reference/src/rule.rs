@@ -1,4 +1,5 @@
-//! The right rules, or the right rules but one ("Plausible blunders").
+//! The right rules, or the right rules but one ("Plausible blunders", and two
+//! about closed days).
 
 #[derive(Clone, Copy, Debug, PartialEq, Eq)]
 pub enum Rule {
@@ -13,15 +14,21 @@ pub enum Rule {
     LateFromEleventh,
     /// A revision is priced at the fuel prices of the closing.
     TodaysFuel,
+    /// Late days are counted from the due day before it was moved.
+    UnmovedLate,
+    /// A due day that is listed is kept.
+    ListedKept,
 }
 
 impl Rule {
-    pub const BLUNDERS: [(&'static str, Rule); 5] = [
+    pub const BLUNDERS: [(&'static str, Rule); 7] = [
         ("cut-first", Rule::CutFirst),
         ("raw-band", Rule::RawBand),
         ("meter-closes", Rule::MeterCloses),
         ("late-from-eleventh", Rule::LateFromEleventh),
         ("todays-fuel", Rule::TodaysFuel),
+        ("unmoved-late", Rule::UnmovedLate),
+        ("listed-kept", Rule::ListedKept),
     ];
 
     /// The right rules, unless the feature `wrong-rule` is on.

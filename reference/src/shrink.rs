@@ -1,13 +1,15 @@
-//! Shortens a failing life to the fewest and simplest lines that still fail.
+//! Shortens a failing life to the fewest and simplest lines that still fail,
+//! and its list of closed days to the fewest.
 
 use crate::calls::{Call, What};
+use crate::closed::Closed;
 use crate::frames;
 use crate::tariff::Fuel;
 
 type Lines = Vec<Vec<u8>>;
 
-/// Whether an input fails.
-pub type Fails<'a> = dyn FnMut(&[u8]) -> bool + 'a;
+/// Whether an input with closed days fails.
+pub type Fails<'a> = dyn FnMut(&[u8], &Closed) -> bool + 'a;
 
 /// Joins lines to an input; the last LF may lack.
 pub fn join(lines: &[Vec<u8>], last_feed: bool) -> Vec<u8> {
@@ -18,25 +20,58 @@ pub fn join(lines: &[Vec<u8>], last_feed: bool) -> Vec<u8> {
     input
 }
 
-/// The shortened input. Its last LF lacks only if the failure needs that.
-pub fn shrink(input: &[u8], fails: &mut Fails) -> Vec<u8> {
-    let lines: Lines = frames::lines(input).map(<[u8]>::to_vec).collect();
-    let last_feed = fails(&join(&lines, true));
-    let shortened = shrink_lines(lines, &mut |lines| fails(&join(lines, last_feed)));
-    join(&shortened, last_feed)
+/// The shortened input and list. Nothing is listed, and no file is there, if
+/// the failure doesn't need it.
+pub fn shrink(input: &[u8], closed: &Closed, fails: &mut Fails) -> (Vec<u8>, Closed) {
+    if fails(input, &Closed::none()) {
+        return (shrink_input(input, &Closed::none(), fails), Closed::none());
+    }
+    let input = shrink_input(input, closed, fails);
+    let closed = shrink_closed(&input, closed, fails);
+    (shrink_input(&input, &closed, fails), closed)
 }
 
+fn shrink_input(input: &[u8], closed: &Closed, fails: &mut Fails) -> Vec<u8> {
+    shrink_text(input, shrink_lines, &mut |input| fails(input, closed))
+}
+
+fn shrink_closed(input: &[u8], closed: &Closed, fails: &mut Fails) -> Closed {
+    let Some(file) = closed.file() else {
+        return Closed::none();
+    };
+    let mut fails = |file: &[u8]| fails(input, &Closed::in_file(file.to_vec()));
+    Closed::in_file(shrink_text(file, remove_lines, &mut fails))
+}
+
+type TextFails<'a> = dyn FnMut(&[u8]) -> bool + 'a;
 type LinesFail<'a> = dyn FnMut(&[Vec<u8>]) -> bool + 'a;
 
-fn shrink_lines(mut lines: Lines, fails: &mut LinesFail) -> Lines {
-    remove_parts(&mut lines, fails);
+/// Shortens lines. The last LF lacks only if the failure needs that.
+fn shrink_text(
+    text: &[u8],
+    shorten: fn(&mut Lines, &mut LinesFail),
+    fails: &mut TextFails,
+) -> Vec<u8> {
+    let mut lines: Lines = frames::lines(text).map(<[u8]>::to_vec).collect();
+    let last_feed = fails(&join(&lines, true));
+    shorten(&mut lines, &mut |lines| fails(&join(lines, last_feed)));
+    join(&lines, last_feed)
+}
+
+fn shrink_lines(lines: &mut Lines, fails: &mut LinesFail) {
+    remove_parts(lines, fails);
     loop {
-        let simpler = simplify(&mut lines, fails);
-        let shorter = remove_single(&mut lines, fails);
+        let simpler = simplify(lines, fails);
+        let shorter = remove_single(lines, fails);
         if !simpler && !shorter {
-            return lines;
+            return;
         }
     }
+}
+
+fn remove_lines(lines: &mut Lines, fails: &mut LinesFail) {
+    remove_parts(lines, fails);
+    remove_single(lines, fails);
 }
 
 /// Removes ever smaller runs of lines.

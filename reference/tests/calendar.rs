@@ -10,7 +10,7 @@ fn date(year: u32, month: u32, day: u32) -> Date {
 fn first_and_last_day() {
     assert_eq!(date_of(FIRST_DAY), Some(date(2000, 1, 1)));
     assert_eq!(date_of(LAST_DAY), Some(date(2099, 12, 31)));
-    assert_eq!(date_of(LAST_CALL_DAY), Some(date(2099, 12, 1)));
+    assert_eq!(date_of(LAST_CALL_DAY), Some(date(2098, 10, 27)));
 }
 
 #[test]

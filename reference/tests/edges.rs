@@ -51,9 +51,9 @@ fn payment_between_stop_and_resumption_changes_no_days() {
 #[test]
 fn longest_period() {
     let mut run = Run::of(&[opening(0, 0, 4)]);
-    let answer = run.ok(reading(36_494, 0));
-    assert_eq!(answer.net, at_base(36_495, 0));
-    assert_eq!(run.account.ledger.items[0].due, 36_524);
+    let answer = run.ok(reading(36_094, 0));
+    assert_eq!(answer.net, at_base(36_095, 0));
+    assert_eq!(run.account.ledger.items[0].due, 36_124);
 }
 
 #[test]
@@ -324,8 +324,8 @@ fn largest_interest_fits() {
     run.ok(change(0, 50_000, 0, 5));
     run.ok(reading_at(0, 49_999, dear));
     let unpaid = run.answer.unpaid;
-    run.ok(payment(36_494, unpaid as u32));
-    assert_eq!(run.account.ledger.held, interest(unpaid, 30, 36_494, Rule::Right));
+    run.ok(payment(36_094, unpaid as u32));
+    assert_eq!(run.account.ledger.held, interest(unpaid, 30, 36_094, Rule::Right));
     assert!(run.account.ledger.held > 100_000_000);
-    assert_eq!(run.call(reading(36_494, 49_999)), 0);
+    assert_eq!(run.call(reading(36_094, 49_999)), 0);
 }

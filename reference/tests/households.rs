@@ -62,7 +62,7 @@ fn steps(input: &[u8]) -> Vec<Step> {
     let mut steps = Vec::new();
     for line in frames::lines(input) {
         let (call, before) = (frames::parse(line), account.clone());
-        let (after, answer) = take(account, call, Rule::Right);
+        let (after, answer) = take(account, call, &[], Rule::Right);
         account = after.clone();
         steps.push(Step { call, before, after, answer });
     }
@@ -155,25 +155,37 @@ fn interest_revisions_and_credit_occur() {
 }
 
 /// Bills files, whole and cut, into a buffer that is used again.
-fn is_equal_in_a_buffer(bill_into: fn(&[u8], &mut [u8]) -> usize) {
+fn is_equal_in_a_buffer(closed: &[u16], bill_into: impl Fn(&[u8], &mut [u8]) -> usize) {
     let mut room = Vec::new();
     for seed in 0..FILES {
         let input = household(seed);
         for input in [&input[..], &input[..input.len() - 1], &input[..input.len() / 2], &[]] {
             room.resize(LONGEST_ANSWER * (input.len() + 1), 0);
             let size = bill_into(input, &mut room);
-            assert!(room[..size] == reference::bill(input, Rule::Right));
+            assert!(room[..size] == reference::bill(input, closed, Rule::Right));
         }
     }
 }
 
+/// An empty list, every third day of three years and a broken list.
+fn lists() -> [Vec<u16>; 3] {
+    [vec![], (12_000..13_200).step_by(3).collect(), vec![1, 1]]
+}
+
 #[test]
 fn the_fast_build_is_equal() {
-    is_equal_in_a_buffer(fast::bill_into);
+    is_equal_in_a_buffer(&[], fast::bill_into);
+    for list in lists() {
+        is_equal_in_a_buffer(&list, |input, room| fast::bill_closed_into(input, &list, room));
+    }
 }
 
 #[test]
 #[cfg(feature = "linked")]
 fn the_library_is_equal() {
-    is_equal_in_a_buffer(reference::linked::bill_into);
+    use reference::linked;
+    is_equal_in_a_buffer(&[], linked::bill_into);
+    for list in lists() {
+        is_equal_in_a_buffer(&list, |input, room| linked::bill_closed_into(input, &list, room));
+    }
 }

@@ -3,6 +3,7 @@
 mod common;
 
 use common::*;
+use reference::account::Account;
 use reference::book::Book;
 use reference::calls::Call;
 
@@ -15,7 +16,11 @@ struct Pair {
 
 impl Pair {
     fn new() -> Pair {
-        Pair { run: Run::new(), book: Book::new(), finals: 0 }
+        Pair::with_closed(&[])
+    }
+
+    fn with_closed(closed: &[u16]) -> Pair {
+        Pair { run: Run::with_closed(closed), book: Book::new(closed), finals: 0 }
     }
 
     fn call(&mut self, call: Call) -> u8 {
@@ -79,6 +84,47 @@ fn sums_hold_when_a_cancellation_brings_interest() {
         cancellation(300, 920),
         payment(301, 1_000_000),
     ]);
+}
+
+#[test]
+fn sums_hold_with_closed_days() {
+    let calls = [
+        opening(0, 0, 4),
+        reading(29, 20),
+        payment(73, 4_850),
+        missed(74),
+        payment(120, 100),
+        stop(150, 30),
+        resumption(151, 5, 5),
+        payment(600, 7_000),
+        reading(601, 25),
+        payment(700, 1),
+        cancellation(1_100, 30),
+        payment(1_200, 900_000),
+    ];
+    let run: Vec<u16> = (59..459).collect();
+    for closed in [&[][..], &[59], &[59, 60, 61, 104], &[58, 60], &run, &run[..200]] {
+        Pair::with_closed(closed).agree(&calls);
+    }
+}
+
+#[test]
+fn a_broken_list_leaves_account_and_book() {
+    let mut pair = Pair::with_closed(&[59, 59]);
+    for call in [opening(0, 0, 4), reading(29, 20), payment(73, 4_850)] {
+        assert_eq!(pair.call(call), 14);
+        assert!(pair.yen_agree() && pair.book.volumes_agree(pair.finals));
+    }
+    assert_eq!(pair.run.account, Account::new());
+}
+
+#[test]
+fn lateness_from_another_day_breaks_the_yen() {
+    let mut pair = Pair { book: Book::new(&[]), ..Pair::with_closed(&[59, 60, 61]) };
+    for call in [opening(0, 0, 4), reading(29, 20), payment(73, 4_850)] {
+        pair.call(call);
+    }
+    assert!(!pair.yen_agree());
 }
 
 #[test]

@@ -14,7 +14,7 @@ const USAGE: &str = "usage: beside [--rounds R] [--times T] PATH...
   Nanoseconds of a pass over each path, best and median of R rounds (30) in
   which paths and sides take turns, once both sides have given the same bytes;
   or one pass of one side over all paths, for a profiler.
-  PATH       a file, or a folder: a pass over it takes all its files
+  PATH       a file, or a folder: a pass over it takes all its files NAME.txt
   --times T  a pass works each file so many times (1), from an empty account";
 
 /// Bills an input into a buffer; gives the output's length.
@@ -60,6 +60,7 @@ fn inputs(path: &PathBuf) -> io::Result<Inputs> {
     }
     let entries = fs::read_dir(path)?.map(|entry| entry.map(|entry| entry.path()));
     let mut files = entries.collect::<io::Result<Vec<_>>>()?;
+    files.retain(|file| file.extension().is_some_and(|end| end == "txt"));
     files.sort();
     files.iter().map(fs::read).collect()
 }

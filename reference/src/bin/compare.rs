@@ -9,8 +9,11 @@ use std::thread;
 use std::time::Instant;
 
 use reference::check::{Checker, Counts, Failure, Itself, Other, EDGES, REACHABLE};
+use reference::closed::Closed;
 use reference::fast::Fast;
-use reference::generator;
+use reference::frames;
+use reference::generator::{self, Life};
+use reference::lists::LISTS;
 use reference::process::Programs;
 use reference::profiles::PROFILES;
 use reference::rule::Rule;
@@ -24,7 +27,8 @@ const USAGE: &str = "usage: compare [--lives N] [--seed S] [--jobs J] [--table F
   --table FILE       writes what was reached, tab-separated
   --least M          fails if a number was reached fewer times (lives / 100)
   --wrong-rule NAME  gives the reference a blunder: raw-band (if not named),
-                     cut-first, meter-closes, late-from-eleventh or todays-fuel
+                     cut-first, meter-closes, late-from-eleventh, todays-fuel,
+                     unmoved-late or listed-kept
   the other side: two programs, the linked library, the fast build of the
   reference, or the reference itself";
 
@@ -40,7 +44,8 @@ impl Side {
     fn other(&self) -> Box<dyn Other> {
         match self {
             Side::Programs { bill, notice } => {
-                Box::new(Programs { bill: bill.into(), notice: notice.into() })
+                let programs = Programs::new(bill.as_ref(), notice.as_ref());
+                Box::new(programs.unwrap_or_else(|error| panic!("{bill}, {notice}: {error}")))
             }
             Side::Linked => linked(),
             Side::Fast => Box::new(Fast),
@@ -134,17 +139,32 @@ struct Total {
     counts: Counts,
     lives: u64,
     profiles: [u64; PROFILES.len()],
+    lists: [u64; LISTS.len()],
 }
 
 impl Total {
     fn new() -> Total {
-        Total { counts: Counts::new(), lives: 0, profiles: [0; PROFILES.len()] }
+        Total {
+            counts: Counts::new(),
+            lives: 0,
+            profiles: [0; PROFILES.len()],
+            lists: [0; LISTS.len()],
+        }
+    }
+
+    fn count(&mut self, life: &Life) {
+        self.lives += 1;
+        self.profiles[life.profile] += 1;
+        self.lists[life.list] += 1;
     }
 
     fn add(&mut self, other: &Total) {
         self.counts.add(&other.counts);
         self.lives += other.lives;
         for (sum, count) in self.profiles.iter_mut().zip(&other.profiles) {
+            *sum += count;
+        }
+        for (sum, count) in self.lists.iter_mut().zip(&other.lists) {
             *sum += count;
         }
     }
@@ -197,9 +217,9 @@ fn work(options: &Options, next: &AtomicU64, found: &Found) -> Total {
             return total;
         }
         let life = generator::life(options.seed, index);
-        total.lives += 1;
-        total.profiles[life.profile] += 1;
-        let checked = checker.check(&life.input, &mut *other, options.rule, &mut total.counts);
+        total.count(&life);
+        let (input, closed) = (&life.input, &life.closed);
+        let checked = checker.check(input, closed, &mut *other, options.rule, &mut total.counts);
         if let Err(failure) = checked {
             found.note(index, failure);
         }
@@ -219,6 +239,9 @@ fn rows(total: &Total) -> Vec<(&'static str, String, u64)> {
     for (profile, count) in PROFILES.iter().zip(total.profiles) {
         rows.push(("profile", profile.0.to_string(), count));
     }
+    for (list, count) in LISTS.iter().zip(total.lists) {
+        rows.push(("list", list.0.to_string(), count));
+    }
     for (edge, count) in EDGES.iter().zip(total.counts.edges) {
         rows.push(("edge", edge.0.to_string(), count));
     }
@@ -227,7 +250,7 @@ fn rows(total: &Total) -> Vec<(&'static str, String, u64)> {
 
 fn print_table(rows: &[(&str, String, u64)]) {
     for (kind, name, count) in rows {
-        println!("{kind:<8} {name:<32} {count:>12}");
+        println!("{kind:<8} {name:<36} {count:>12}");
     }
 }
 
@@ -237,23 +260,36 @@ fn write_table(file: &str, rows: &[(&str, String, u64)]) -> std::io::Result<()> 
     fs::write(file, format!("kind\tname\tcount\n{text}"))
 }
 
-/// Prints the shortest list of lines that still fails.
+/// Prints the fewest lines and closed days that still fail.
 fn report_failure(options: &Options, index: u64, failure: &Failure) {
     let life = generator::life(options.seed, index);
-    println!("life {index} of seed {} ({}) fails", options.seed, PROFILES[life.profile].0);
+    let (profile, list) = (PROFILES[life.profile].0, LISTS[life.list].0);
+    println!("life {index} of seed {} ({profile}; closed days: {list}) fails", options.seed);
     println!("{failure}");
     let mut other = options.side.other();
     let mut checker = Checker::default();
-    let mut check =
-        |input: &[u8]| checker.check(input, &mut *other, options.rule, &mut Counts::new());
-    let short = shrink::shrink(&life.input, &mut |input| check(input).is_err());
-    let lines = reference::frames::lines(&short).count();
-    println!("shortened to {lines} lines:");
-    for line in short.split_inclusive(|&byte| byte == b'\n') {
-        println!("  {}", line.escape_ascii());
+    let mut check = |input: &[u8], closed: &Closed| {
+        checker.check(input, closed, &mut *other, options.rule, &mut Counts::new())
+    };
+    let mut fails = |input: &[u8], closed: &Closed| check(input, closed).is_err();
+    let (input, closed) = shrink::shrink(&life.input, &life.closed, &mut fails);
+    println!("shortened to {} lines:", frames::lines(&input).count());
+    print_lines(&input);
+    match closed.file() {
+        Some(file) => {
+            println!("file `closed` of {} lines:", frames::lines(file).count());
+            print_lines(file);
+        }
+        None => println!("no file `closed`"),
     }
-    if let Err(failure) = check(&short) {
+    if let Err(failure) = check(&input, &closed) {
         println!("{failure}");
+    }
+}
+
+fn print_lines(text: &[u8]) {
+    for line in text.split_inclusive(|&byte| byte == b'\n') {
+        println!("  {}", line.escape_ascii());
     }
 }
 

@@ -11,7 +11,8 @@ const USAGE: &str =
     "usage: lives --long N [--seed S]                 one life of N lines, to standard output
        lives --households N --dir D [--seed S]  N files of twenty years
        lives --small N --dir D [--seed S]       N files of about twenty lines
-       lives --any N --dir D [--seed S]         the first N lives that compare uses";
+       lives --any N --dir D [--seed S]         the first N lives that compare uses,
+                                                each with its file `closed`, if any";
 
 /// The value after an option.
 fn value(words: &[String], name: &str) -> Option<String> {
@@ -30,9 +31,25 @@ fn write_long(lines: u64, seed: u64) -> io::Result<()> {
 fn write_files(count: u64, folder: &str, life: impl Fn(u64) -> Vec<u8>) -> io::Result<()> {
     fs::create_dir_all(folder)?;
     for index in 0..count {
-        fs::write(Path::new(folder).join(format!("{index:07}.txt")), life(index))?;
+        write_file(folder, index, "txt", &life(index))?;
     }
     Ok(())
+}
+
+fn write_lives(count: u64, folder: &str, seed: u64) -> io::Result<()> {
+    fs::create_dir_all(folder)?;
+    for index in 0..count {
+        let life = generator::life(seed, index);
+        write_file(folder, index, "txt", &life.input)?;
+        if let Some(file) = life.closed.file() {
+            write_file(folder, index, "closed", file)?;
+        }
+    }
+    Ok(())
+}
+
+fn write_file(folder: &str, index: u64, end: &str, bytes: &[u8]) -> io::Result<()> {
+    fs::write(Path::new(folder).join(format!("{index:07}.{end}")), bytes)
 }
 
 fn run(words: &[String]) -> Option<io::Result<()>> {
@@ -50,7 +67,7 @@ fn run(words: &[String]) -> Option<io::Result<()>> {
         return Some(write_files(count, &folder, small));
     }
     let count = number(words, "--any")?;
-    Some(write_files(count, &folder, |index| generator::life(seed, index).input))
+    Some(write_lives(count, &folder, seed))
 }
 
 fn main() -> ExitCode {

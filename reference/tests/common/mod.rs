@@ -53,20 +53,31 @@ pub fn cancel_stopped(day: u32) -> Call {
     Call { day, what: What::CancelStopped }
 }
 
-/// An account and its last answer.
+/// An account, its last answer and the closed days of all its calls.
 pub struct Run {
     pub account: Account,
     pub answer: Answer,
+    closed: Vec<u16>,
 }
 
 impl Run {
     pub fn new() -> Run {
-        Run { account: Account::new(), answer: Answer::default() }
+        Run::with_closed(&[])
+    }
+
+    pub fn with_closed(closed: &[u16]) -> Run {
+        let closed = closed.to_vec();
+        Run { account: Account::new(), answer: Answer::default(), closed }
     }
 
     /// All calls accepted.
     pub fn of(calls: &[Call]) -> Run {
-        let mut run = Run::new();
+        Run::of_closed(&[], calls)
+    }
+
+    /// All calls accepted, with closed days.
+    pub fn of_closed(closed: &[u16], calls: &[Call]) -> Run {
+        let mut run = Run::with_closed(closed);
         for call in calls {
             assert_eq!(run.call(*call), 0, "{call:?}");
         }
@@ -76,7 +87,7 @@ impl Run {
     /// One call; a declined one leaves the account and answers 0 fields.
     pub fn call(&mut self, call: Call) -> u8 {
         let before = self.account.clone();
-        let (after, answer) = take(before.clone(), Some(call), Rule::Right);
+        let (after, answer) = take(before.clone(), Some(call), &self.closed, Rule::Right);
         if answer.number != 0 {
             assert_eq!(after, before);
             assert_eq!(answer, Answer::declined(answer.number));
