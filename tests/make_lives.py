@@ -1,18 +1,21 @@
 #!/usr/bin/env python3
 """Makes tests/lives: small household files and what bill and notice print for them.
 
-    tests/make_lives.py                                 writes NAME.in and README.md
+    tests/make_lives.py                                 writes NAME.in, NAME.closed and README.md
     tests/make_lives.py --expect REF_BILL REF_NOTICE    writes NAME.bill and NAME.notice too
 
 Every field of every answer and every notice stands below, worked out by hand
-from document 01; a field that is not named is 0. What is stored is printed by
-the reference programs, and is compared here with the figures below.
+from documents 01 and 02; a field that is not named is 0. What is stored is
+printed by the reference programs, and is compared here with the figures below.
+A case with closed days has a file NAME.closed, which the programs find as
+`closed` in the folder that they run in.
 """
 
 import datetime
 import pathlib
 import subprocess
 import sys
+import tempfile
 
 LIVES = pathlib.Path(__file__).resolve().parent / "lives"
 
@@ -76,20 +79,31 @@ def date(day):
     return (datetime.date(2000, 1, 1) + datetime.timedelta(days=day)).strftime("%Y%m%d")
 
 
-def interest_item(day, unpaid):
-    return "01" + date(day) + date(day + 30) + f"{unpaid:016x}"
+def item(kind, day, unpaid, due):
+    """The notice of an item; it is due after 30 days where no closed day moves that."""
+    return kind + date(day) + date(day + 30 if due is None else due) + f"{unpaid:016x}"
 
 
-def price_item(day, unpaid):
-    return "02" + date(day) + date(day + 30) + f"{unpaid:016x}"
+def interest_item(day, unpaid, due=None):
+    return item("01", day, unpaid, due)
+
+
+def price_item(day, unpaid, due=None):
+    return item("02", day, unpaid, due)
+
+
+def closed_file(days):
+    """The file `closed` of some days."""
+    return "".join(f"{day:04x}\n" for day in days).encode()
 
 
 class Life:
-    """A household file, the answers to its lines and the items open at its end."""
+    """A household file, its closed days, the answers to its lines and the items open at its end."""
 
     def __init__(self, name, shows):
         self.name, self.shows = name, shows
         self.input, self.answers, self.notices = b"", [], []
+        self.closed = None
 
     def __call__(self, line, number=0, estimated=0, volumes=(), net=0, interest=0, unpaid=0, credit=0, end=b"\n"):
         """One line and its answer."""
@@ -108,6 +122,14 @@ class Life:
     def open(self, *items):
         """The items open at the end, oldest first."""
         self.notices = list(items)
+
+    def close(self, *days):
+        """The days of the file `closed`."""
+        self.closed = closed_file(days)
+
+    def files(self):
+        """Endings of the files that go in, with their bytes."""
+        return {"in": self.input} if self.closed is None else {"in": self.input, "closed": self.closed}
 
 
 CASES = []
@@ -825,18 +847,18 @@ def _(a):
     a(payment(0, 1), credit=2)
 
 
-@life("number_02", "2: day 36,495 and day 65,535 in each call; day 36,494 is accepted")
+@life("number_02", "2: day 36,095 and day 65,535 in each call; day 36,094 is accepted")
 def _(a):
-    for day in (36_495, 65_535):
+    for day in (36_095, 65_535):
         a.no(2, opening(day, 0, 4))
-    a(opening(36_494, 0, 4))
-    for day in (36_495, 65_535):
+    a(opening(36_094, 0, 4))
+    for day in (36_095, 65_535):
         a.no(2, read(day, 0), missed(day), absent(day), change(day, 0, 0, 4), stop(day, 0), cancellation(day, 0), payment(day, 1))
-    a(stop(36_494, 0), volumes=[0], net=31, unpaid=31)
-    for day in (36_495, 65_535):
+    a(stop(36_094, 0), volumes=[0], net=31, unpaid=31)
+    for day in (36_095, 65_535):
         a.no(2, resumption(day, 0, 4), cancel_stopped(day))
-    a(resumption(36_494, 0, 4), unpaid=31)
-    a.open(price_item(36_494, 31))
+    a(resumption(36_094, 0, 4), unpaid=31)
+    a.open(price_item(36_094, 31))
 
 
 @life("number_03", "3: the day before the latest accepted call in each call; the same day is accepted; a declined call's day does not count")
@@ -1010,7 +1032,7 @@ def _(a):
 
 
 # --- Two causes: the lower number, 40 first ------------------------------------
-# 2 and 3 never meet (the latest day is at most 36,494), nor do 11 and 12 (a payment never adds more items than it settles)
+# 2 and 3 never meet (the latest day is at most 36,094), nor do 11 and 12 (a payment never adds more items than it settles)
 # or 12 and 13 (credit is 0 while an item is open).
 
 
@@ -1176,41 +1198,41 @@ def _(a):
 # --- The last days ------------------------------------------------------------
 
 
-@life("last_day", "day 36,494 is the last: 1 December 2099, due 31 December 2099; the next closing there is 7, day 36,495 is 2")
+@life("last_day", "day 36,094 is the last: 27 October 2098, due 26 November 2098; the next closing there is 7, day 36,095 is 2")
 def _(a):
-    a(opening(36_494, 0, 4))
-    a(read(36_494, 0), volumes=[0], net=31, unpaid=31)
-    a.no(7, read(36_494, 0))
-    a.no(2, read(36_495, 0))
-    a(payment(36_494, 1), unpaid=30)
-    a.open("022099120120991231000000000000001e")
+    a(opening(36_094, 0, 4))
+    a(read(36_094, 0), volumes=[0], net=31, unpaid=31)
+    a.no(7, read(36_094, 0))
+    a.no(2, read(36_095, 0))
+    a(payment(36_094, 1), unpaid=30)
+    a.open("022098102720981126000000000000001e")
 
 
-@life("whole_century", "one period of 36,495 days: 0 m³, 95,000 × 36,495 / 30 = 1,155,675 yen")
+@life("whole_century", "one period of 36,095 days, the longest: 0 m³, 95,000 × 36,095 / 30 = 114,300,833 sen, 1,143,008 yen")
 def _(a):
     a(opening(0, 0, 4))
-    a(read(36_494, 0), volumes=[0], net=1_155_675, unpaid=1_155_675)
-    a.open("02209912012099123100000000" + f"{1_155_675:08x}")
+    a(read(36_094, 0), volumes=[0], net=1_143_008, unpaid=1_143_008)
+    a.open("02209810272098112600000000" + f"{1_143_008:08x}")
 
 
-@life("century_late", "an item of day 0 settled on day 36,494, 36,464 days late")
+@life("century_late", "an item of day 0 settled on day 36,094, 36,064 days late")
 def _(a):
-    # 0 m³ in 1 day 31, body 29; 29 × 36,464 × 274 = 289,742,944, so 289. 36,494 days of 0 m³: 95,000 × 36,494 / 30 = 115,564,333 sen.
+    # 0 m³ in 1 day 31, body 29; 29 × 36,064 × 274 = 286,564,544, so 286. 36,094 days of 0 m³: 95,000 × 36,094 / 30 = 114,297,666 sen.
     a(opening(0, 0, 4))
     a(read(0, 0), volumes=[0], net=31, unpaid=31)
-    a(payment(36_494, 31))
-    a(cancellation(36_494, 0), volumes=[0], net=1_155_643, interest=289, unpaid=1_155_932)
-    a.open(interest_item(36_494, 289), price_item(36_494, 1_155_643))
+    a(payment(36_094, 31))
+    a(cancellation(36_094, 0), volumes=[0], net=1_142_976, interest=286, unpaid=1_143_262)
+    a.open(interest_item(36_094, 286), price_item(36_094, 1_142_976))
 
 
 @life("dates", "obligation and due dates over leap days and turns of the year, 31 each")
 def _(a):
     a(opening(28, 0, 4))
-    # 29 January, 29 February and 31 December 2000, 28 February 2001, 29 February 2004, 30 November 2099.
-    days = [28, 59, 365, 424, 1_520, 36_493]
+    # 29 January, 29 February and 31 December 2000, 28 February 2001, 29 February 2004, 26 October 2098.
+    days = [28, 59, 365, 424, 1_520, 36_093]
     # Prices of 0 m³: 1 day 31; 31 days 950; 306 days 9,690; 59 days 95,000 × 59 / 30 = 186,833; 1,096 days 3,470,666;
-    # 34,973 days 110,747,833 sen.
-    prices = [31, 950, 9_690, 1_868, 34_706, 1_107_478]
+    # 34,573 days 109,481,166 sen.
+    prices = [31, 950, 9_690, 1_868, 34_706, 1_094_811]
     for n, (day, price) in enumerate(zip(days, prices)):
         a(read(day, 0), volumes=[0], net=price, unpaid=sum(prices[: n + 1]))
     a.open(
@@ -1219,7 +1241,7 @@ def _(a):
         "022000123120010130" + f"{9_690:016x}",
         "022001022820010330" + f"{1_868:016x}",
         "022004022920040330" + f"{34_706:016x}",
-        "022099113020991230" + f"{1_107_478:016x}",
+        "022098102620981125" + f"{1_094_811:016x}",
     )
 
 
@@ -1402,6 +1424,272 @@ def _(a):
     rest_of_example(a)
 
 
+# --- Closed days ------------------------------------------------------------------
+# Interest below is written as above; 4,850 has the body 4,491.
+
+
+@life("example_closed", "its first two lines with 29 February and 1 March 2000 closed: due 2 March")
+def _(a):
+    a.close(59, 60)
+    a(OPENING)
+    a(READING, volumes=[20], net=4_850, unpaid=4_850)
+    a.open("02200001302000030200000000000012f2")
+
+
+@life("closed_empty", "an empty file is an empty list: due 29 February")
+def _(a):
+    a.close()
+    a(OPENING)
+    a(READING, volumes=[20], net=4_850, unpaid=4_850)
+    a.open(price_item(29, 4_850, 59))
+
+
+@life("closed_no_final_lf", "a file whose last line lacks its LF: due on day 61")
+def _(a):
+    a.closed = b"003b\n003c"
+    a(OPENING)
+    a(READING, volumes=[20], net=4_850, unpaid=4_850)
+    a.open(price_item(29, 4_850, 61))
+
+
+@life("closed_one_line", "a file of four digits: due on day 60")
+def _(a):
+    a.closed = b"003b"
+    a(OPENING)
+    a(READING, volumes=[20], net=4_850, unpaid=4_850)
+    a.open(price_item(29, 4_850, 60))
+
+
+@life("closed_runs", "a run that begins before day + 30, one closed day, closed days behind it, before it, and on both sides of a gap")
+def _(a):
+    a.close(57, 58, 59, 60, 89, 120, 121, 147, 148, 179, 181)
+    a(opening(0, 0, 4))
+    for n in range(1, 6):
+        a(read(30 * n - 1, 20 * n), volumes=[20], net=4_850, unpaid=4_850 * n)
+    a.open(
+        price_item(29, 4_850, 61),
+        price_item(59, 4_850, 90),
+        price_item(89, 4_850, 119),
+        price_item(119, 4_850, 149),
+        price_item(149, 4_850, 180),
+    )
+
+
+@life("closed_same_day", "items of two days due on the same day, behind a run over both")
+def _(a):
+    # 1 day of 0 m³ 31 each.
+    a.close(30, 31, 32)
+    a(opening(0, 0, 4))
+    days_at_zero(a, 0, 3)
+    a.open(price_item(0, 31, 33), price_item(1, 31, 33), price_item(2, 31, 33), price_item(3, 31, 33))
+
+
+def days_59_to_458(a):
+    """400 closed days in a run, and items due on day 58, 59, 458 and 459 if none were closed: 17,547 open."""
+    # 29 days of 20 m³ 4,850; 1 day of 0 m³ 31; 399 days of 0 m³: 95,000 × 399 / 30 = 1,263,500 sen.
+    a.close(*range(59, 459))
+    a(opening(0, 0, 4))
+    a(read(28, 20), volumes=[20], net=4_850, unpaid=4_850)
+    a(read(29, 20), volumes=[0], net=31, unpaid=4_881)
+    a(read(428, 20), volumes=[0], net=12_635, unpaid=17_516)
+    a(read(429, 20), volumes=[0], net=31, unpaid=17_547)
+
+
+@life("closed_400", "400 closed days in a run: the day before it stays, its first day moves by 400, its last by one, the day behind it stays")
+def _(a):
+    days_59_to_458(a)
+    a.open(price_item(28, 4_850, 58), price_item(29, 31, 459), price_item(428, 12_635, 459), price_item(429, 31, 459))
+
+
+@life("closed_400_paid", "the same paid on day 469, 411 days late for the first and 10 for the others: 505")
+def _(a):
+    # 4,491 × 411 × 274 = 505.7. 41 days of 0 m³: 95,000 × 41 / 30 = 129,833 sen.
+    days_59_to_458(a)
+    a(payment(469, 17_547))
+    a(read(470, 20), volumes=[0], net=1_298, interest=505, unpaid=1_803)
+    a.open(interest_item(470, 505), price_item(470, 1_298))
+
+
+@life("closed_400_late", "the same paid on day 470, 11 days late for the others: 12,635 bears 35 more, 31 none")
+def _(a):
+    # 4,491 × 412 × 274 = 506.98; 12,635 − 935 = 11,700: 11,700 × 11 × 274 = 35.3; 29 × 11 × 274 = 0.09.
+    # 42 days of 0 m³: 95,000 × 42 / 30 = 133,000 sen.
+    days_59_to_458(a)
+    a(payment(470, 17_547))
+    a(read(471, 20), volumes=[0], net=1_330, interest=541, unpaid=1_871)
+    a.open(interest_item(471, 541), price_item(471, 1_330))
+
+
+@life("closed_last_day", "an item of day 36,094 behind 400 closed days: due on day 36,524, 31 December 2099")
+def _(a):
+    a.close(*range(36_124, 36_524))
+    a(opening(36_094, 0, 4))
+    a(read(36_094, 0), volumes=[0], net=31, unpaid=31)
+    a.no(2, read(36_095, 0), payment(36_095, 1))
+    a.open("022098102720991231000000000000001f")
+
+
+@life("closed_last_day_too", "day 36,524 closed and 399 days from 36,124 on: due on day 36,523, 30 December 2099")
+def _(a):
+    a.close(*range(36_124, 36_523), 36_524)
+    a(opening(36_094, 0, 4))
+    a(read(36_094, 0), volumes=[0], net=31, unpaid=31)
+    a.open("022098102720991230000000000000001f")
+
+
+@life("closed_first_and_last", "days 0 and 36,524 closed: no due day is moved")
+def _(a):
+    # 36,094 days of 0 m³: 114,297,666 sen.
+    a.close(0, 36_524)
+    a(opening(0, 0, 4))
+    a(read(0, 0), volumes=[0], net=31, unpaid=31)
+    a(read(36_094, 0), volumes=[0], net=1_142_976, unpaid=1_143_007)
+    a.open(price_item(0, 31, 30), price_item(36_094, 1_142_976, 36_124))
+
+
+@life("closed_late", "4,850 settled 10 days late from a moved day: 0; 11 days late: 13, posted by the next closing")
+def _(a):
+    # Due on day 62 in place of 59, and on 90 in place of 89. 4,491 × 11 × 274 = 13.5.
+    # From the days before they moved it would be 13 days, 15, and 12 days, 14.
+    a.close(59, 60, 61, 89)
+    a(opening(0, 0, 4))
+    a(read(29, 20), volumes=[20], net=4_850, unpaid=4_850)
+    a(read(59, 40), volumes=[20], net=4_850, unpaid=9_700)
+    a(payment(72, 4_850), unpaid=4_850)
+    a(read(89, 40), volumes=[0], net=950, unpaid=5_800)
+    a(payment(101, 4_850), unpaid=950)
+    a(read(119, 40), volumes=[0], net=950, interest=13, unpaid=1_913)
+    a.open(price_item(89, 950), interest_item(119, 13), price_item(119, 950))
+
+
+@life("closed_not_late", "4,850 settled 10 and 11 days after the day it was due on but for closed days: 0 both times")
+def _(a):
+    # Due on day 60 in place of 59, and on 90 in place of 89: 9 and 10 days late.
+    a.close(59, 89)
+    a(opening(0, 0, 4))
+    a(read(29, 20), volumes=[20], net=4_850, unpaid=4_850)
+    a(read(59, 40), volumes=[20], net=4_850, unpaid=9_700)
+    a(payment(69, 4_850), unpaid=4_850)
+    a(read(89, 40), volumes=[0], net=950, unpaid=5_800)
+    a(payment(100, 4_850), unpaid=950)
+    a(read(119, 40), volumes=[0], net=950, unpaid=1_900)
+    a.open(price_item(89, 950), price_item(119, 950))
+
+
+@life("closed_late_by_net", "a net below zero settles an item 10 days late from a moved day: 0; a day later it would be 18")
+def _(a):
+    # 6,650 of day 59 is due on day 109 in place of 89. 02 on day 119 with net −3,800 settles it, as in net_settles_late.
+    a.close(*range(89, 109))
+    one_miss(a)
+    a(payment(60, 9_520), unpaid=3_780)
+    a(read(119, 130), volumes=[0, 0], net=-3_800, credit=20)
+    a(read(149, 130), volumes=[0], net=950, unpaid=930)
+    a.open(price_item(149, 930))
+
+
+@life("closed_interest", "interest and price posted by one closing, due on day 121 in place of 119")
+def _(a):
+    # 4,850 due on day 59, paid on day 70: 13. 60 days of 0 m³ 1,900.
+    a.close(119, 120)
+    a(opening(0, 0, 4))
+    a(read(29, 20), volumes=[20], net=4_850, unpaid=4_850)
+    a(payment(70, 4_850))
+    a(read(89, 20), volumes=[0], net=1_900, interest=13, unpaid=1_913)
+    a.open(interest_item(89, 13, 121), price_item(89, 1_900, 121))
+
+
+@life("closed_interest_cancelled", "a payment on a cancelled account posts 13, due on day 102 in place of 100")
+def _(a):
+    a.close(100, 101)
+    a(opening(0, 0, 4))
+    a(cancellation(29, 20), volumes=[20], net=4_850, unpaid=4_850)
+    a(payment(70, 4_850), interest=13, unpaid=13)
+    a.open(interest_item(70, 13, 102))
+
+
+@life("closed_interest_stopped", "0a posts 13, due on day 113 in place of 110")
+def _(a):
+    a.close(110, 111, 112)
+    a(opening(0, 0, 4))
+    a(stop(29, 20), volumes=[20], net=4_850, unpaid=4_850)
+    a(payment(70, 4_850))
+    a(cancel_stopped(80), interest=13, unpaid=13)
+    a.open(interest_item(80, 13, 113))
+
+
+@life("closed_interest_of_08", "08 posts interest held and interest of its own, due on day 150 in place of 149")
+def _(a):
+    # As cancelled_with_both.
+    a.close(149)
+    one_miss(a)
+    a(payment(80, 9_520), unpaid=3_780)
+    a(cancellation(119, 130), volumes=[0, 0], net=-3_800, interest=85, unpaid=65)
+    a.open(interest_item(119, 15, 150), interest_item(119, 50, 150))
+
+
+def all_declined(a):
+    """Frames, junk and empty lines, 14 each; the last without LF."""
+    a.no(14, "", OPENING, READING, "opening", PAYMENT, "", READING.upper(), OPENING + "\r", "0" * 61)
+    a.no(14, opening(36_095, 0, 3), cancel_stopped(0))
+    a(OPENING, 14, end=b"")
+
+
+# Name, what is wrong with the file, and its bytes.
+BROKEN = [
+    ("equal", "two equal entries", closed_file([59, 59])),
+    ("equal_last", "400 entries, the last two equal", closed_file([*range(59, 458), 457])),
+    ("falling", "entries that fall", closed_file([60, 59])),
+    ("falling_last", "400 entries, the last below the others", closed_file([*range(59, 458), 58])),
+    ("above", "an entry of 36,525", closed_file([59, 36_525])),
+    ("above_all", "an entry of 65,535", closed_file([65_535])),
+    ("401", "401 entries in a run", closed_file(range(59, 460))),
+    ("401_apart", "401 entries, 90 days apart", closed_file(range(0, 401 * 90, 90))),
+    ("1000", "1,000 entries in a run", closed_file(range(1_000))),
+    ("3_digits", "a line of three digits", b"03b\n"),
+    ("5_digits", "a line of five digits", b"0003b\n"),
+    ("8_digits", "two days on a line", b"003b003c\n"),
+    ("last_short", "a last line of three digits, without LF", b"003b\n003"),
+    ("upper", "an upper-case digit", b"003B\n"),
+    ("letter", "a letter that is no digit", b"003g\n"),
+    ("prefix", "0x before the digits", b"0x3b\n"),
+    ("cr", "CR before LF", b"003b\r\n003c\r\n"),
+    ("cr_only", "CR in place of LF", b"003b\r003c\r"),
+    ("blank_before", "a blank before the digits", b" 003b\n"),
+    ("blank_behind", "a blank behind the digits", b"003b \n"),
+    ("blank_inside", "a blank in place of a digit", b"00 b\n"),
+    ("tab", "a tab behind the digits", b"003b\t\n"),
+    ("nul", "a NUL byte", b"003\0\n"),
+    ("high", "a byte above 127", b"003\xe2\n"),
+    ("mark", "a byte order mark", b"\xef\xbb\xbf003b\n"),
+    ("one_lf", "one LF alone", b"\n"),
+    ("empty_first", "an empty line before the others", b"\n003b\n"),
+    ("empty_between", "an empty line between others", b"003b\n\n003c\n"),
+    ("empty_last", "an empty line behind the others", b"003b\n\n"),
+]
+
+
+def add_broken(name, wrong, file):
+    @life(f"closed_bad_{name}", f"14: {wrong}")
+    def _(a):
+        a.closed = file
+        all_declined(a)
+
+
+for broken in BROKEN:
+    add_broken(*broken)
+
+
+@life("closed_bad_no_input", "a broken list and an input of no bytes: nothing printed")
+def _(a):
+    a.close(59, 59)
+
+
+@life("closed_bad_one_lf_input", "a broken list and an input of one LF: one empty line, 14")
+def _(a):
+    a.close(59, 59)
+    a.no(14, "")
+
+
 # --- Writing ----------------------------------------------------------------------
 
 
@@ -1424,13 +1712,23 @@ def readme():
     rows = "".join(f"| `{case.name}` | {case.shows} |\n" for case in CASES)
     return f"""# Lives
 
-Each case is a household file `NAME.in`, with what `bill` (`NAME.bill`) and `notice` (`NAME.notice`) print for it. `tests/run` compares
-byte for byte. `tests/make_lives.py` writes the files: it tells each life call by call, with every field of every answer worked out by hand
-from document 01, and stores what the reference programs print only where the two agree.
+Each case is a household file `NAME.in`, with what `bill` (`NAME.bill`) and `notice` (`NAME.notice`) print for it. Where there is a file
+`NAME.closed`, the programs run in a folder that has it as `closed`, otherwise in one that has no such file. `tests/run` compares byte for
+byte. `tests/make_lives.py` writes the files: it tells each life call by call, with every field of every answer worked out by hand from
+documents 01 and 02, and stores what the reference programs print only where the two agree.
 
 | case | what it shows |
 |---|---|
 {rows}"""
+
+
+def printed(program, case):
+    """What a program prints for a case, in a folder with its closed days."""
+    with tempfile.TemporaryDirectory() as folder:
+        if case.closed is not None:
+            (pathlib.Path(folder) / "closed").write_bytes(case.closed)
+        program = pathlib.Path(program).resolve()
+        return subprocess.run([program], input=case.input, stdout=subprocess.PIPE, check=True, cwd=folder).stdout
 
 
 def main(arguments):
@@ -1442,18 +1740,19 @@ def main(arguments):
     LIVES.mkdir(exist_ok=True)
     (LIVES / "README.md").write_text(readme())
     for case in CASES:
-        (LIVES / f"{case.name}.in").write_bytes(case.input)
+        for end, text in case.files().items():
+            (LIVES / f"{case.name}.{end}").write_bytes(text)
         for place, (program, hand) in enumerate((("bill", case.answers), ("notice", case.notices)), 1):
             stored = LIVES / f"{case.name}.{program}"
             if arguments:
-                got = subprocess.run([arguments[place]], input=case.input, stdout=subprocess.PIPE, check=True).stdout
+                got = printed(arguments[place], case)
             else:
                 got = stored.read_bytes() if stored.exists() else b""
             if not first_difference(case.name, program, got, lines_of(hand)):
                 agreed = False
             elif arguments:
                 stored.write_bytes(got)
-    known = {f"{name}.{end}" for name in names for end in ("in", "bill", "notice")} | {"README.md"}
+    known = {f"{case.name}.{end}" for case in CASES for end in (*case.files(), "bill", "notice")} | {"README.md"}
     for path in sorted(LIVES.iterdir()):
         if path.name not in known:
             print(f"{path.name}: of no case")
