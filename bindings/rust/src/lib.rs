@@ -1,20 +1,28 @@
 //! A household's file in, what `bill` or `notice` writes out.
 //!
 //! Any bytes are an input. A line that is no frame is answered with number 40.
+//!
+//! The functions that end in `with` take a list of closed days, on which no item is due: day numbers, strictly rising,
+//! at most 400, each at most 36,524. By a list that breaks these bounds every line is answered with number 14, and
+//! there are no notices. The others close no day.
 
 use std::error::Error;
 use std::fmt;
 
 extern "C" {
-    fn breccianest_bill(
+    fn breccianest_bill_closed(
         input: *const u8,
         input_len: usize,
+        closed: *const u16,
+        closed_len: usize,
         output: *mut u8,
         output_len: usize,
     ) -> usize;
-    fn breccianest_notice(
+    fn breccianest_notice_closed(
         input: *const u8,
         input_len: usize,
+        closed: *const u16,
+        closed_len: usize,
         output: *mut u8,
         output_len: usize,
     ) -> usize;
@@ -23,7 +31,8 @@ extern "C" {
 /// The longest answer of a line, its LF among it.
 const LONGEST_ANSWER: usize = 117;
 
-type Function = unsafe extern "C" fn(*const u8, usize, *mut u8, usize) -> usize;
+type Function =
+    unsafe extern "C" fn(*const u8, usize, *const u16, usize, *mut u8, usize) -> usize;
 
 /// The output buffer is too small. Nothing was written to it.
 #[derive(Clone, Copy, Debug, PartialEq, Eq)]
@@ -46,9 +55,18 @@ impl Error for TooSmall {}
 ///
 /// If the input is longer than 2^48 bytes.
 pub fn bill(input: &[u8]) -> Vec<u8> {
+    bill_with(input, &[])
+}
+
+/// A frame for each line of the input, by a list of closed days.
+///
+/// # Panics
+///
+/// If the input is longer than 2^48 bytes.
+pub fn bill_with(input: &[u8], closed: &[u16]) -> Vec<u8> {
     // With room for the longest answers, one for each line, the input is worked once.
     let ended = input.iter().filter(|&&character| character == b'\n').count();
-    whole(breccianest_bill, input, LONGEST_ANSWER.saturating_mul(ended + 1))
+    whole(breccianest_bill_closed, input, closed, LONGEST_ANSWER.saturating_mul(ended + 1))
 }
 
 /// A line for each item that is open at the end of the input, oldest first.
@@ -57,25 +75,65 @@ pub fn bill(input: &[u8]) -> Vec<u8> {
 ///
 /// If the input is longer than 2^48 bytes.
 pub fn notice(input: &[u8]) -> Vec<u8> {
+    notice_with(input, &[])
+}
+
+/// A line for each item that is open at the end of the input, oldest first, by a list of closed days.
+///
+/// # Panics
+///
+/// If the input is longer than 2^48 bytes.
+pub fn notice_with(input: &[u8], closed: &[u16]) -> Vec<u8> {
     // At most 72 items are open, each a line of 35 bytes.
-    whole(breccianest_notice, input, 72 * 35)
+    whole(breccianest_notice_closed, input, closed, 72 * 35)
 }
 
 /// Writes `bill`'s output to the front of a buffer and gives its size.
 pub fn bill_into(input: &[u8], output: &mut [u8]) -> Result<usize, TooSmall> {
-    into(breccianest_bill, input, output)
+    bill_into_with(input, &[], output)
+}
+
+/// Writes `bill_with`'s output to the front of a buffer and gives its size.
+pub fn bill_into_with(
+    input: &[u8],
+    closed: &[u16],
+    output: &mut [u8],
+) -> Result<usize, TooSmall> {
+    into(breccianest_bill_closed, input, closed, output)
 }
 
 /// Writes `notice`'s output to the front of a buffer and gives its size.
 pub fn notice_into(input: &[u8], output: &mut [u8]) -> Result<usize, TooSmall> {
-    into(breccianest_notice, input, output)
+    notice_into_with(input, &[], output)
 }
 
-fn into(function: Function, input: &[u8], output: &mut [u8]) -> Result<usize, TooSmall> {
-    // SAFETY: both slices are alive during the call, have the lengths given and
-    // do not overlap; the function reads the one and writes the other.
-    let needed =
-        unsafe { function(input.as_ptr(), input.len(), output.as_mut_ptr(), output.len()) };
+/// Writes `notice_with`'s output to the front of a buffer and gives its size.
+pub fn notice_into_with(
+    input: &[u8],
+    closed: &[u16],
+    output: &mut [u8],
+) -> Result<usize, TooSmall> {
+    into(breccianest_notice_closed, input, closed, output)
+}
+
+fn into(
+    function: Function,
+    input: &[u8],
+    closed: &[u16],
+    output: &mut [u8],
+) -> Result<usize, TooSmall> {
+    // SAFETY: the slices are alive during the call, have the lengths given, and the output overlaps
+    // neither of the others; the function reads those two and writes the output.
+    let needed = unsafe {
+        function(
+            input.as_ptr(),
+            input.len(),
+            closed.as_ptr(),
+            closed.len(),
+            output.as_mut_ptr(),
+            output.len(),
+        )
+    };
     if needed <= output.len() {
         Ok(needed)
     } else {
@@ -84,9 +142,9 @@ fn into(function: Function, input: &[u8], output: &mut [u8]) -> Result<usize, To
 }
 
 /// The output in a vector, which has room for any output that the input may have.
-fn whole(function: Function, input: &[u8], room: usize) -> Vec<u8> {
+fn whole(function: Function, input: &[u8], closed: &[u16], room: usize) -> Vec<u8> {
     let mut output = vec![0; room];
-    let size = into(function, input, &mut output).expect("an input of at most 2^48 bytes");
+    let size = into(function, input, closed, &mut output).expect("an input of at most 2^48 bytes");
     output.truncate(size);
     output
 }
@@ -105,6 +163,9 @@ mod tests {
     /// Document 01, "Notices": after the first two lines.
     const TWO_LINES: &[u8] = b"0100000000006404\n02001d00000078000144ba000124f8\n";
     const NOTICE: &[u8] = b"02200001302000022900000000000012f2\n";
+    /// The same item, obligation day 29 and due day 59, where days 59 and 60 are closed: due on day 61, 2 March 2000.
+    const MOVED: &[u8] = b"02200001302000030200000000000012f2\n";
+    const BROKEN: &[u8] = b"0e0000000000000000000000000000000000000000000000000000000000\n";
     const NO_FRAME: &[u8] = b"280000000000000000000000000000000000000000000000000000000000\n";
 
     #[test]
@@ -120,11 +181,33 @@ mod tests {
     }
 
     #[test]
+    fn closed_days_move_a_due_day() {
+        assert_eq!(notice_with(TWO_LINES, &[]), NOTICE);
+        assert_eq!(notice_with(TWO_LINES, &[58, 60]), NOTICE);
+        assert_eq!(notice_with(TWO_LINES, &[59, 60]), MOVED);
+        assert_eq!(bill_with(INPUT, &[59, 60]), OUTPUT);
+    }
+
+    #[test]
+    fn a_list_out_of_bounds_answers_14() {
+        let long: Vec<u16> = (0..401).collect();
+        for closed in [&[60, 59][..], &[59, 59], &[36_525], &long] {
+            assert_eq!(bill_with(INPUT, closed), BROKEN.repeat(3));
+            assert_eq!(bill_with(b"\n\n", closed), BROKEN.repeat(2));
+            assert_eq!(notice_with(TWO_LINES, closed), b"");
+        }
+        assert_eq!(bill_with(INPUT, &long[..400]), OUTPUT);
+        assert_eq!(bill_with(INPUT, &[36_524]), OUTPUT);
+    }
+
+    #[test]
     fn no_input_gives_no_output() {
         assert_eq!(bill(b""), b"");
         assert_eq!(notice(b""), b"");
         assert_eq!(bill_into(b"", &mut []), Ok(0));
         assert_eq!(notice_into(b"", &mut []), Ok(0));
+        assert_eq!(bill_into_with(b"", &[1, 1], &mut []), Ok(0));
+        assert_eq!(notice_into_with(b"", &[1, 1], &mut []), Ok(0));
     }
 
     #[test]
@@ -137,6 +220,11 @@ mod tests {
         for room in 0..NOTICE.len() {
             let mut output = vec![0xaa; room];
             assert_eq!(notice_into(TWO_LINES, &mut output), Err(TooSmall { needed: NOTICE.len() }));
+            let needed = MOVED.len();
+            assert_eq!(
+                notice_into_with(TWO_LINES, &[59, 60], &mut output),
+                Err(TooSmall { needed })
+            );
             assert!(output.iter().all(|&byte| byte == 0xaa));
         }
     }

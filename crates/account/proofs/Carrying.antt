@@ -21,7 +21,8 @@ pub last-none : (ledger : Ledger) → ledger .count ≤ capacity → ledger .cre
 last-none ledger few credit = rw (le-leb _ _ few, le-leb _ _ credit)
 
 -- An entry that is not refused leaves a place for every item.
-pub places-few : (holidays : List ℕ) (e : Entry) (s : Standing) → numberOf (asked holidays e s) ≡ 0 → length (asked holidays e s .open-items) ≤ capacity
+pub places-few : (holidays : List ℕ) (e : Entry) (s : Standing) → numberOf (asked holidays e s) ≡ 0
+    → length (asked holidays e s .open-items) ≤ capacity
 places-few holidays e s z = number-passes (length (asked holidays e s .open-items)) (asked holidays e s .credit) z .count-most
 
 -- A call on the account that lies there.
@@ -97,5 +98,6 @@ module _ (holidays : List ℕ) (h : Head) (estimates : Estimates) (s : Standing)
           → outcome holidays a call ≡ accepted (made (asked holidays (p .entry) s) (interestPosted holidays (p .entry) s))
       outcome-asked f z = rw (asked-work f, z)
 
-      pub outcome-refused : p .asks ≡ true → (n : ℕ) → n ≡ numberOf (asked holidays (p .entry) s) → (n ≡ 0 → ⊥) → outcome holidays a call ≡ declined a n
+      pub outcome-refused : p .asks ≡ true → (n : ℕ) → n ≡ numberOf (asked holidays (p .entry) s) → (n ≡ 0 → ⊥)
+          → outcome holidays a call ≡ declined a n
       outcome-refused f n e some = rw (asked-work f, ← e, ne-eqb n 0 some)

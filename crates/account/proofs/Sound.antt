@@ -20,7 +20,8 @@ item-reduced : (day : ℕ) (item : Item) (money : ℕ) → ItemFacts day item �
 item-reduced day item money w h = search arith
 
 -- What is posted on a day that calls take.
-entered-facts : (holidays : List ℕ) (kind : Kind) (day amount : ℕ) → listAllowed holidays ≡ true → day ≤ lastCallDay → (isPrice kind ≡ true → amount ≤ mostPrice) → amount ≤ mostInterest
+entered-facts : (holidays : List ℕ) (kind : Kind) (day amount : ℕ) → listAllowed holidays ≡ true → day ≤ lastCallDay
+    → (isPrice kind ≡ true → amount ≤ mostPrice) → amount ≤ mostInterest
     → Every (ItemFacts day) (entered holidays kind day amount)
 entered-facts holidays kind day amount listed h price most =
     ⊎-elim

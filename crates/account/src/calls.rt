@@ -1,4 +1,5 @@
-// A call on an account that is known to be whole, by a list that is known to be within its bounds: planned on its head, and entered in its ledger once.
+// A call on an account that is known to be whole, by a list that is known to be within its bounds: planned on its head, and entered in
+// its ledger once.
 ghost use mathlib.Core.Path.{_≡_};
 ghost use mathlib.Core.Bool.{true};
 ghost use mathlib.Core.List.{List, [], _∷_, _++_};

@@ -143,7 +143,8 @@ module _ (holidays : List ℕ) (day : ℕ) {m : Money} {priced : ℕ} (kept : Ke
           entries-are = refl;
           paid-is = omega arith;
           fresh =
-              every-append Fresh interest charge (fresh-entered holidays Interest day (m .unentered)) (fresh-entered holidays Price day (aboveZero net));
+              every-append Fresh interest charge (fresh-entered holidays Interest day (m .unentered))
+              (fresh-entered holidays Price day (aboveZero net));
         }
 
     pub closed-is : Posting.closed holidays day net (onLedger m) ≡ onLedger (settled (Book.closed holidays m day net) day)
@@ -185,7 +186,8 @@ module _ (holidays : List ℕ) (day : ℕ) {m : Money} {priced : ℕ} (kept : Ke
         sums = omega (arith, all, amounts-entered holidays Interest day (m .unentered), kept .sums);
       }
 
-pub entered-is : (holidays : List ℕ) (day : ℕ) {m : Money} {priced : ℕ} → Kept m priced → heldPosted holidays day (onLedger m) ≡ onLedger (interestEntered holidays m day)
+pub entered-is : (holidays : List ℕ) (day : ℕ) {m : Money} {priced : ℕ} → Kept m priced
+    → heldPosted holidays day (onLedger m) ≡ onLedger (interestEntered holidays m day)
 unfolding heldPosted enters
 entered-is holidays day {m} kept =
     rw (← items-entered holidays Interest day (m .unentered))

@@ -69,7 +69,8 @@ reconnection-matched holidays {a} w {day} p =
     (by-cond (λ n. n ≤ day + 1) (eqb (stopOf (a .status)) day) (le-refl (day + 1)) (omega arith))
 
 -- 05: the status stays.
-pub exchange-matched : (holidays : List ℕ) {a : Account} {b : Book} → Matched a b → {day old new digits : ℕ} → ExchangePassed (headOf a) day old new digits
+pub exchange-matched : (holidays : List ℕ) {a : Account} {b : Book} → Matched a b → {day old new digits : ℕ}
+    → ExchangePassed (headOf a) day old new digits
     → Matched (Calls.exchanged a day old new digits .account) (acceptMeter holidays b day (exchanged (b .metering) old new digits))
 exchange-matched holidays {a} {b} w {day} {old} p =
     let supplied = supply w (p .supplied) in

@@ -79,7 +79,8 @@ module _ (holidays : List ℕ) (listed : listAllowed holidays ≡ true)
       cancelled-matched (cancelled-stands (waits-stands posted holidays refl)) fits refl refl
 
 -- 09 by status.
-pub payment-matched : (holidays : List ℕ) → listAllowed holidays ≡ true → {a : Account} {b : Book} → Matched a b → {day yen : ℕ} → PaymentPassed (headOf a) day yen
+pub payment-matched : (holidays : List ℕ) → listAllowed holidays ≡ true → {a : Account} {b : Book} → Matched a b → {day yen : ℕ}
+    → PaymentPassed (headOf a) day yen
     → (let after = payment holidays a day yen .account .ledger in Passes (after .count) (after .credit))
     → Matched (payment holidays a day yen .account) (acceptMoney holidays b day (received (b .money) yen))
 payment-matched holidays listed {a} w {day} {yen} p fits =

@@ -166,7 +166,8 @@ module _ (holidays : List ℕ) (listed : listAllowed holidays ≡ true)
     last-after : Stands day (heldPosted holidays day ledger) (cancelled (interestEntered holidays money day)) (prices periods)
     last-after = cancelled-stands (posted-stands closed-after holidays listed (p .day-most) (fits .count-most))
 
-    pub cancellation-matched : Matched (Calls.cancelled holidays a day reading fuel .account) (acceptReading holidays b call day reading fuel cancelled)
+    pub cancellation-matched :
+        Matched (Calls.cancelled holidays a day reading fuel .account) (acceptReading holidays b call day reading fuel cancelled)
     unfolding periods net money
     cancellation-matched =
         record {

@@ -90,7 +90,8 @@ module _ {day : ℕ} {x : Standing} {m : Money} {priced : ℕ} (s : Stands day x
               closed-bounded holidays day x listed day-most (s .bounded .sound .items) (held-most day x (s .bounded)) net charge (rw (s .is) places);
         }
 
-    pub posted-stands : length (heldPosted holidays day x .open-items) ≤ capacity → Stands day (heldPosted holidays day x) (interestEntered holidays m day) priced
+    pub posted-stands : length (heldPosted holidays day x .open-items) ≤ capacity
+        → Stands day (heldPosted holidays day x) (interestEntered holidays m day) priced
     posted-stands places =
         let is : heldPosted holidays day x ≡ onLedger (interestEntered holidays m day) = rw (s .is) (entered-is holidays day (s .kept)) in
         let none = ap (λ (y : Standing). y .held) is in

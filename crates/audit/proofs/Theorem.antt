@@ -1,20 +1,21 @@
 -- Demand 3: both sums, wholeness, and declined calls, by every list of closed days, after every list of calls from a new account.
 -- Assumes nothing.
-use Rattle.common.proofs.Words.{_≡_, refl, sym, ap, subst, _∙_, Bool, true, false, false≢true, List, [], _∷_, map, ℕ, _+_, zero-add, arith}
-use Rattle.common.proofs.Words.{eqb, eqb-true}
+use Rattle.common.proofs.Words.{_≡_, refl, sym, ap, subst, _∙_, Bool, true, false, false≢true, List, [], _∷_, _++_, map, ℕ, zero, suc, _+_}
+use Rattle.common.proofs.Words.{zero-add, arith, eqb, eqb-true, length, replicate}
 use Rattle.lists.specs.Sum.{total, sum}
 use Rattle.common.proofs.Cases.{by-test}
 use Rattle.lists.proofs.Pad.{take-pad}
+use Rattle.duedays.specs.DueDays.{listAllowed}
 use Rattle.ledger.specs.{Settling.unpaidOf, Posting.stored, Posting.Tidy}
 use Rattle.account.specs.Calls.{standingEstimates, headOf, newAccount, Work, work}
 use Rattle.account.specs.Whole.{madeMeter, madeEstimates, madeLedger, asMade, whole}
-use Rattle.account.specs.{declared.Account.Account, declared.Outcome.Outcome, Refusals.refusal}
-use Rattle.account.specs.Outcomes.{accepted, declined, outcome}
+use Rattle.account.specs.{declared.Account.Account, declared.Answer.Answer, declared.Outcome.Outcome, Refusals.refusal}
+use Rattle.account.specs.Outcomes.{accepted, declining, declined, outcome}
 use Rattle.intake.specs.declared.Call.the-variants.{Opening, Reading, Missed, Absent, Exchange, Disconnection, Reconnection, Cancellation}
 use Rattle.intake.specs.declared.Call.the-variants.{Payment, StoppedCancellation}
 use Rattle.intake.specs.{declared.Call.Call, Statuses.isNew, Statuses.isStopped, Refusals.firstRefusal}
 use Rattle.closing.specs.Closing.{storedEstimates}
-use Rattle.account.proofs.{Facts.facts-whole, Passed.Accepted}
+use Rattle.account.proofs.{Concluding.outcome-not-listed, Facts.facts-whole, Passed.Accepted}
 use Rattle.intake.proofs.Passed.{begun, reading-passed, miss-passed, dial-passed, exchange-passed, payment-passed}
 use Rattle.ledger.proofs.Within.{Passes}
 use Rattle.audit.specs.Book.{Book, newPeriod, prices, acceptMiss, accept, enter}
@@ -45,13 +46,18 @@ keeps holidays a b w (Opening day reading digits) p =
 keeps holidays a b w (Reading day reading fuel) p =
     let call = Reading day reading fuel in
     let q = reading-passed (headOf a) day reading fuel (p .first-passed) in
-    record { matched = reading-matched holidays (p .listed) w q call refl refl (passes p); volumes = reading-advanced holidays (p .listed) w q call refl refl }
+    record {
+      matched = reading-matched holidays (p .listed) w q call refl refl (passes p);
+      volumes = reading-advanced holidays (p .listed) w q call refl refl;
+    }
 keeps holidays a b w (Missed day fuel) p =
     let call = Missed day fuel in
     let q = miss-passed (headOf a) day fuel (p .first-passed) in
     let previous = supply w (q .supplied) .facts .meter .previous-most in
     let after = miss-matched holidays (p .listed) w q call refl (a .meter .previous) previous (λ e. absurd (false≢true e)) (passes p) in
-    let With : ℕ → Type 0 = λ v. Matched (work holidays a call .account) (acceptMiss holidays b day (newPeriod (b .metering) call day fuel v ∷ b .periods)) in
+    let With : ℕ → Type 0 = λ v.
+    Matched (work holidays a call .account) (acceptMiss holidays b day (newPeriod (b .metering) call day fuel v ∷ b .periods))
+    in
     record { matched = subst With (w .metered .previous-is) after; volumes = zero-add _ }
 keeps holidays a b w (Absent day fuel) p =
     let q = miss-passed (headOf a) day fuel (p .first-passed) in
@@ -61,14 +67,20 @@ keeps holidays a b w (Exchange day old new digits) p =
 keeps holidays a b w (Disconnection day reading fuel) p =
     let call = Disconnection day reading fuel in
     let q = reading-passed (headOf a) day reading fuel (p .first-passed) in
-    record { matched = disconnection-matched holidays (p .listed) w q call refl refl (passes p); volumes = reading-advanced holidays (p .listed) w q call refl refl }
+    record {
+      matched = disconnection-matched holidays (p .listed) w q call refl refl (passes p);
+      volumes = reading-advanced holidays (p .listed) w q call refl refl;
+    }
 keeps holidays a b w (Reconnection day reading digits) p =
     let q = dial-passed (isStopped (a .status)) (headOf a) day reading digits (p .first-passed) in
     record { matched = reconnection-matched holidays w q; volumes = zero-add _ }
 keeps holidays a b w (Cancellation day reading fuel) p =
     let call = Cancellation day reading fuel in
     let q = reading-passed (headOf a) day reading fuel (p .first-passed) in
-    record { matched = cancellation-matched holidays (p .listed) w q call refl refl (passes p); volumes = reading-advanced holidays (p .listed) w q call refl refl }
+    record {
+      matched = cancellation-matched holidays (p .listed) w q call refl refl (passes p);
+      volumes = reading-advanced holidays (p .listed) w q call refl refl;
+    }
 keeps holidays a b w (Payment day yen) p =
     record { matched = payment-matched holidays (p .listed) w (payment-passed (headOf a) day yen (p .first-passed)) (passes p); volumes = zero-add _ }
 keeps holidays a b w (StoppedCancellation day) p =
@@ -162,13 +174,34 @@ tidy holidays calls =
     balanced .stored-as ∙ ap stored (sym (standing-is balanced))
 
 -- So does the array of estimates.
-pub tidy-estimates : (holidays : List ℕ) (calls : List Call) → let a = run holidays start calls .account in a .estimates ≡ storedEstimates (standingEstimates a)
+pub tidy-estimates : (holidays : List ℕ) (calls : List Call)
+    → let a = run holidays start calls .account in a .estimates ≡ storedEstimates (standingEstimates a)
 tidy-estimates holidays calls =
     let metered = run-holds holidays start calls start-holds .matched .metered in
     metered .estimates-are ∙ ap storedEstimates (sym (estimates-stand metered))
 
+replicate-behind : (n : ℕ) (answer : Answer) (answers : List Answer)
+    → replicate n answer ++ (answer ∷ answers) ≡ answer ∷ (replicate n answer ++ answers)
+replicate-behind zero answer answers = refl
+replicate-behind (suc n) answer answers = ap (answer ∷_) (replicate-behind n answer answers)
+
+-- By a list that breaks its bounds every call is answered 14, and nothing moves.
+pub nothing-moves : (holidays : List ℕ) → listAllowed holidays ≡ false → (r : Run) (calls : List Call)
+    → run holidays r calls ≡ record { account = r .account; book = r .book; answers = replicate (length calls) (declining 14) ++ r .answers }
+unfolding run enter
+nothing-moves holidays unlisted r [] = refl
+nothing-moves holidays unlisted r (call ∷ calls) =
+    let next : Outcome → Run = λ o.
+    record { account = o .account; book = enter holidays (r .book) call (o .answer .number); answers = o .answer ∷ r .answers }
+    in
+    ap (λ o. run holidays (next o) calls) (outcome-not-listed holidays (r .account) call unlisted) ∙
+    nothing-moves holidays unlisted (next (declined (r .account) 14)) calls ∙
+    ap (λ answers. record { account = r .account; book = r .book; answers = answers })
+    (replicate-behind (length calls) (declining 14) (r .answers))
+
 -- What runs is the run of its calls.
-seen-is : (holidays : List ℕ) (r : Run) (done : List Done) → Ran holidays (r .account) done → seen holidays r done ≡ run holidays r (map (λ d. d .call) done)
+seen-is : (holidays : List ℕ) (r : Run) (done : List Done) → Ran holidays (r .account) done
+    → seen holidays r done ≡ run holidays r (map (λ d. d .call) done)
 unfolding run seen
 seen-is holidays r [] w = refl
 seen-is holidays r (d ∷ later) w =

@@ -325,7 +325,8 @@ accept holidays b (Missed day fuel) = acceptMiss holidays b day (withMiss (b .me
 accept holidays b (Absent day fuel) = acceptMiss holidays b day (withAbsence (b .metering) (b .periods) day fuel)
 accept holidays b (Exchange day old new digits) = acceptMeter holidays b day (exchanged (b .metering) old new digits)
 accept holidays b (Disconnection day reading fuel) = acceptReading holidays b (Disconnection day reading fuel) day reading fuel (λ money. money)
-accept holidays b (Reconnection day reading digits) = acceptMeter holidays b day (begun (b .metering) reading digits (cond (closedOn (b .periods) day) (day + 1) day))
+accept holidays b (Reconnection day reading digits) =
+    acceptMeter holidays b day (begun (b .metering) reading digits (cond (closedOn (b .periods) day) (day + 1) day))
 accept holidays b (Cancellation day reading fuel) = acceptReading holidays b (Cancellation day reading fuel) day reading fuel cancelled
 accept holidays b (Payment day yen) = acceptMoney holidays b day (received (b .money) yen)
 accept holidays b (StoppedCancellation day) = acceptMoney holidays b day (cancelled (interestEntered holidays (b .money) day))

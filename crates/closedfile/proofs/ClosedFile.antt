@@ -1,6 +1,7 @@
 -- Laws of the file `closed`. Assumes nothing.
-use Rattle.common.proofs.Words.{_≡_, refl, sym, ap, _∙_, Bool, true, false, cond, _&&_, and-false, false≢true, List, [], _∷_, _++_, append-nil, map, map-append}
-use Rattle.common.proofs.Words.{ℕ, zero, suc, _+_, _*_, _≤_, _<_, zero-add, arith, eqb, leb, length, getD, set, take, drop, length-drop, drop-drop, length-append, length-map}
+use Rattle.common.proofs.Words.{_≡_, refl, sym, ap, _∙_, Bool, true, false, cond, _&&_, and-false, false≢true, List, [], _∷_, _++_}
+use Rattle.common.proofs.Words.{append-nil, map, map-append, ℕ, zero, suc, _+_, _*_, _≤_, _<_, zero-add, arith, eqb, leb, length, getD, set}
+use Rattle.common.proofs.Words.{take, drop, length-drop, drop-drop, length-append, length-map}
 use Rattle.common.proofs.Words.{length-take, length-take-le, append-snoc, take-all, drop-cons, drop-of-length-le, eqb-true, eq-eqb, ne-eqb, lt-leb}
 use lib.ListN.{take-append-drop}
 use Rattle.lists.specs.{Sum.total, Every.every, Pad.pad}
@@ -146,7 +147,8 @@ too-long file h =
 pub first-bytes : (file : List ℕ) → listIn (take (longestFile + 1) file) ≡ listIn file
 first-bytes file =
     by-order longestFile (length file)
-    (λ long. too-long (take (longestFile + 1) file) (rw (length-take-le (longestFile + 1) file (omega arith)) (omega arith)) ∙ sym (too-long file long))
+    (λ long.
+    too-long (take (longestFile + 1) file) (rw (length-take-le (longestFile + 1) file (omega arith)) (omega arith)) ∙ sym (too-long file long))
     (λ short. rw (take-all (longestFile + 1) file (omega arith)))
 
 -- Four digits make a number of 16 bits.

@@ -74,7 +74,8 @@ record First (holidays : List ℕ) (n day first : ℕ) : Type 0 where
   open-or-end : (listed holidays first ≡ false) ⊎ (first ≡ day + n)
 
 first-is : (n : ℕ) (holidays : List ℕ) (day : ℕ) → First holidays n day (firstOpen n holidays day)
-first-is zero holidays day = record { from = omega arith; within = omega arith; passes = λ d l h. absurd (omega arith); open-or-end = inr (omega arith) }
+first-is zero holidays day =
+    record { from = omega arith; within = omega arith; passes = λ d l h. absurd (omega arith); open-or-end = inr (omega arith) }
 first-is (suc n) holidays day =
     let later = first-is n holidays (day + 1) in
     by-test (listed holidays day)

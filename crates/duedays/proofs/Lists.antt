@@ -1,5 +1,6 @@
 -- Lists of closed days by their places. Assumes nothing.
-use Rattle.common.proofs.Words.{_≡_, refl, sym, true, false, _&&_, and-true, or-true, List, [], _∷_, ℕ, zero, suc, _+_, _≤_, _<_, le-of-suc-le-suc, not-suc-le-zero}
+use Rattle.common.proofs.Words.{_≡_, refl, sym, true, false, _&&_, and-true, or-true, List, [], _∷_, ℕ, zero, suc, _+_, _≤_, _<_}
+use Rattle.common.proofs.Words.{le-of-suc-le-suc, not-suc-le-zero}
 use Rattle.common.proofs.Words.{arith, length, getD, take, leb, eq-eqb, ne-eqb, ltb, leb-true, ltb-true}
 use Rattle.common.proofs.Tests.{and-left, and-right}
 use Rattle.lists.specs.Every.{every}
@@ -68,7 +69,9 @@ module _ {holidays : List ℕ} (w : Allowed holidays) {day at : ℕ} (from : Fir
       record {
         in-order = omega arith;
         within = omega arith;
-        before = λ i l. by-order i at (λ below. omega (arith, from .before i below)) (λ same. let is : i ≡ at = omega arith in rw (is, e) (omega arith));
+        before = λ i l.
+            by-order i at (λ below. omega (arith, from .before i below))
+            (λ same. let is : i ≡ at = omega arith in rw (is, e) (omega arith));
         behind = λ i l long. omega (arith, w .in-order at i (omega arith) long);
       }
 

@@ -13,7 +13,7 @@ use Rattle.lanes.specs.Lanes.{Worked}
 use Rattle.ledger.proofs.Queues.{part-count, next-asked, next-same, Spread, spread-stands, spread-fits, gathered-is}
 use Rattle.intake.specs.{declared.Call.Call, declared.Head.Head, Limits.mostMisses, Refusals.firstRefusal}
 use Rattle.intake.specs.Heads.{HeadBounds, EstimatesFit}
-use Rattle.plan.specs.Plans.{changed, Room, quietPlan, passedPlan, passedVolumes}
+use Rattle.plan.specs.Plans.{changed, Room, passedPlan, passedVolumes}
 use Rattle.plan.specs.{declared.Plan.Plan, declared.Change.Change}
 use Rattle.plan.specs.declared.Change.the-variants.{Kept, Cleared, Added}
 use Rattle.closing.specs.Closing.{storedEstimates}
@@ -25,9 +25,9 @@ use Rattle.account.proofs.Carrying.{made, goes, outcome-quiet, outcome-asked, o
 use Rattle.account.proofs.{Concluding.outcome-declined, Working.head-counted}
 use Rattle.frames.specs.{declared.Parsed.Parsed, declared.Parsed.the-variants.Frame, declared.Parsed.the-variants.NotAFrame}
 use Rattle.lines.specs.Line.{readOutcome, parsedOutcome}
-use Rattle.feeding.specs.Working.{accountIn, Lain, Planned, unasked, Enters, headAfter, answerOf}
+use Rattle.feeding.specs.Working.{accountIn, Lain, unasked, Enters, headAfter, answerOf}
 use Rattle.feeding.specs.Reached.{Reached}
-use Rattle.feeding.proofs.Planning.{number-is, passes, answer-refused, answer-accepted}
+use Rattle.feeding.proofs.Planning.{Planned, number-is, passes, answer-refused, answer-accepted}
 use Rattle.feeding.proofs.Reached.{reached-whole, reached-tidy, reached-estimates}
 
 -- What is known of the parts of a reached account.
@@ -181,35 +181,30 @@ module _ (holidays : List ℕ) (after : List Item) (r : Entered) (volumes : List
         go true asks = asked-comes asks (enters .asked none asks)
         go false asks = quiet-comes asks (enters .quiet none asks)
 
-  -- A number other than 0 that a plan has and nothing else.
-  refused-comes : {p : Plan} {o : Outcome} (number : ℕ) → (number ≡ 0 → ⊥) → p ≡ quietPlan number h → o ≡ declined a number
-      → Enters holidays items q p after r → Comes after h estimates p r volumes o
-  refused-comes {p} number other is o-is enters =
-      let number-is : p .number ≡ number = ap (λ (x : Plan). x .number) is in
-      let some : p .number ≡ 0 → ⊥ = λ z. other (sym number-is ∙ z) in
-      unasked-comes some (o-is ∙ ap (declined a) (sym number-is)) (enters .declined some)
+  -- What comes of a line, by a list within its bounds.
+  module _ (listed : listAllowed holidays ≡ true) where
+    read-comes : {p : Plan} {line : Parsed} {before : List ℕ} → Enters holidays items q p after r
+        → Planned h estimates line before p volumes → Comes after h estimates p r volumes (readOutcome holidays a line)
+    read-comes {p = p} {line = Frame call} enters plans =
+        ⊎-elim
+        (λ none. let passed = passes plans none in
+        subst (λ (x : Plan). x .number ≡ 0 → Enters holidays items q x after r → Comes after h estimates x r volumes (outcome holidays a call))
+        (sym (passed .plan-is)) (passed-comes listed call (passed .first) (passed .shown)) none enters)
+        (λ some. let is = number-is plans ∙ ap (λ (x : Head). firstRefusal x call) (sym (head-is l)) in
+        unasked-comes some (outcome-declined holidays a call listed (lain-whole l) (p .number) is some) (enters .declined some))
+        (zero-or-not (p .number))
+    read-comes {p = p} {line = NotAFrame} enters plans =
+        let number-40 : p .number ≡ 40 = ap (λ (x : Plan). x .number) (plans .is) in
+        let some : p .number ≡ 0 → ⊥ = λ z. absurd (omega (arith, number-40, z)) in
+        unasked-comes some (ap (declined a) (sym number-40)) (enters .declined some)
 
-  -- What comes of a line by a list within its bounds,
-  read-comes : {p : Plan} {line : Parsed} {before : List ℕ} → listAllowed holidays ≡ true → Enters holidays items q p after r
-      → Planned true h estimates line before p volumes → Comes after h estimates p r volumes (readOutcome holidays a line)
-  read-comes {p = p} {line = Frame call} listed enters plans =
-      ⊎-elim
-      (λ none. let passed = passes plans none in
-      subst (λ (x : Plan). x .number ≡ 0 → Enters holidays items q x after r → Comes after h estimates x r volumes (outcome holidays a call))
-      (sym (passed .plan-is)) (passed-comes listed call (passed .first) (passed .shown)) none enters)
-      (λ some. let is = number-is plans ∙ ap (λ (x : Head). firstRefusal x call) (sym (head-is l)) in
-      unasked-comes some (outcome-declined holidays a call listed (lain-whole l) (p .number) is some) (enters .declined some))
-      (zero-or-not (p .number))
-  read-comes {line = NotAFrame} listed enters plans = refused-comes 40 (λ z. absurd (omega (arith, z))) (plans .read refl) refl enters
-
-  -- and by any list.
-  pub comes : {p : Plan} {line : Parsed} {before : List ℕ} {listed : Bool} → listed ≡ listAllowed holidays → Enters holidays items q p after r
-      → Planned listed h estimates line before p volumes → Comes after h estimates p r volumes (parsedOutcome holidays a line)
-  comes {listed = true} is enters plans = rw (← is) (read-comes (sym is) enters plans)
-  comes {listed = false} is enters plans = rw (← is) (refused-comes 14 (λ z. absurd (omega (arith, z))) (plans .unlisted refl) refl enters)
+    pub comes : {p : Plan} {line : Parsed} {before : List ℕ} → Enters holidays items q p after r
+        → Planned h estimates line before p volumes → Comes after h estimates p r volumes (parsedOutcome holidays a line)
+    comes enters plans = rw listed (read-comes enters plans)
 
 -- A plan that is entered was not refused.
-pub entered-planned : {holidays : List ℕ} {items after : List Item} {q : Queue} {p : Plan} {r : Entered} → Enters holidays items q p after r → r .number ≡ 0
+pub entered-planned : {holidays : List ℕ} {items after : List Item} {q : Queue} {p : Plan} {r : Entered} → Enters holidays items q p after r
+    → r .number ≡ 0
     → p .number ≡ 0
 entered-planned {p = p} enters z =
     ⊎-elim (λ none. none) (λ some. sym (ap (λ (x : Entered). x .number) (enters .declined some .0)) ∙ z) (zero-or-not (p .number))
@@ -221,24 +216,23 @@ pub record Said (holidays : List ℕ) (h : Head) (p : Plan) (volumes : List ℕ)
   pub count-is : length (take (p .count) volumes) ≡ p .count
 
 pub said : {holidays : List ℕ} {items : List Item} {q : Queue} {h : Head} {estimates : Estimates} {line : Parsed} {before volumes : List ℕ}
-    {p : Plan} {listed : Bool} → listed ≡ listAllowed holidays → Lain holidays items q h estimates → Planned listed h estimates line before p volumes
-    → p .number ≡ 0 → Said holidays h p volumes
-said {h = h} {estimates} {line = Frame call} {listed = true} is l plans none =
+    {p : Plan} → listAllowed holidays ≡ true → Lain holidays items q h estimates → Planned h estimates line before p volumes → p .number ≡ 0
+    → Said holidays h p volumes
+said {h = h} {estimates} {line = Frame call} listed l plans none =
     let stand = standing estimates in
     let fit = lain-estimates l in
     let passed = passes plans none in
     let six : length stand ≤ mostMisses = omega (arith, length-take-most (estimates .count) (estimates .periods), fit .few) in
     rw (passed .plan-is) (record {
-      enterable = record { bounds = entry-within h (lain-bounds l) stand six (fit .within) call (passed .first); listed = sym is };
+      enterable = record { bounds = entry-within h (lain-bounds l) stand six (fit .within) call (passed .first); listed = listed };
       room = change-room h stand call (passed .first);
       count-is = ap length (passed .shown) ∙ sym (passed-count h stand call);
     })
-said {line = NotAFrame} {listed = true} is l plans none = absurd (omega (arith, ap (λ (x : Plan). x .number) (plans .read refl), none))
-said {listed = false} is l plans none = absurd (omega (arith, ap (λ (x : Plan). x .number) (plans .unlisted refl), none))
+said {line = NotAFrame} listed l plans none = absurd (omega (arith, ap (λ (x : Plan). x .number) (plans .is), none))
 
 -- The estimates behind a line. Where as many stand as before, they are the same; else the call was accepted.
-module _ {holidays : List ℕ} {items after : List Item} {q : Queue} {h : Head} {estimates : Estimates} {p : Plan} {r : Entered} {volumes : List ℕ} {o : Outcome}
-    (l : Lain holidays items q h estimates) (c : Comes after h estimates p r volumes o)
+module _ {holidays : List ℕ} {items after : List Item} {q : Queue} {h : Head} {estimates : Estimates} {p : Plan} {r : Entered}
+    {volumes : List ℕ} {o : Outcome} (l : Lain holidays items q h estimates) (c : Comes after h estimates p r volumes o)
     {head′ : Head} (head-is : head′ ≡ headAfter (r .number) p h) where
   same-changed : (change : Change) → changed change estimates .count ≡ estimates .count → changed change estimates ≡ estimates
   same-changed Kept e = refl
@@ -303,7 +297,8 @@ module _ {holidays : List ℕ} {a : Account} (reached : Reached holidays a) {ite
       }
 
 -- And of one whose items are gathered.
-pub account-gathered : {holidays : List ℕ} {items gathered : List Item} {q : Queue} {h : Head} {estimates : Estimates} → Lain holidays items q h estimates
+pub account-gathered : {holidays : List ℕ} {items gathered : List Item} {q : Queue} {h : Head} {estimates : Estimates}
+    → Lain holidays items q h estimates
     → gathered ≡ pad capacity blank (take (q .count) (drop (q .front) items))
     → accountOf h estimates (ledgerOf q gathered) ≡ accountIn items q h estimates
 account-gathered {q = q} {h} {estimates} l e =

@@ -25,7 +25,8 @@ pub reached-new : (holidays : List ℕ) → Reached holidays newAccount
 unfolding run
 reached-new holidays = record { calls = []; account-is = refl }
 
-run-behind : (holidays : List ℕ) (r : Run) (calls : List Call) (call : Call) → run holidays r (calls ++ (call ∷ [])) ≡ step holidays (run holidays r calls) call
+run-behind : (holidays : List ℕ) (r : Run) (calls : List Call) (call : Call)
+    → run holidays r (calls ++ (call ∷ [])) ≡ step holidays (run holidays r calls) call
 unfolding run
 run-behind holidays r [] call = refl
 run-behind holidays r (c ∷ cs) call = run-behind holidays (step holidays r c) cs call

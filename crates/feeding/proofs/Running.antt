@@ -94,6 +94,7 @@ module _ {holidays input text : List ℕ} {s : State} {items : List Item} {line 
           clear = found .clear;
           lain = lain-turned c head-is estimates-are (reached-parsed holidays account (parsedBy (n .fields)) (g .lain .reached));
           ahead =
-              ahead-turn holidays input (length text) (stateIn items line w) o (g .ahead) (ends .leads holidays account) (c .answer-is) out-is place-is
+              ahead-turn holidays input (length text) (stateIn items line w) o (g .ahead) (ends .leads holidays account) (c .answer-is)
+              out-is place-is
               (λ i. state (account-turned c head-is estimates-are i) (ends .none-begun i) (ends .blank i));
         }

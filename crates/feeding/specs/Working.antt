@@ -1,7 +1,8 @@
 -- An account worked in parts: its head, its estimates, its open items as they lie in lanes, and the numbers of their queue.
-use mathlib.Core.{Path._≡_, Bool.Bool, Bool.true, Bool.false, Bool.cond, List.List}
+use mathlib.Core.{Path._≡_, Bool.true, Bool.false, Bool.cond, List.List}
 use Prim.Native.Nat.{ℕ, _+_, _≤_}
 use lib.{Dec.eqb, ListN.length, ListN.take}
+use Rattle.duedays.specs.DueDays.{listAllowed}
 use Rattle.meter.specs.declared.Estimates.{Estimates}
 use Rattle.ledger.specs.{declared.Item.Item, Limits.mostEnd, Posting.stored, declared.Queue.Queue}
 use Rattle.ledger.specs.{Numbers.ledgerOf, Numbers.lying, Numbers.Lies, declared.Entered.Entered}
@@ -27,27 +28,27 @@ pub record Lain (holidays : List ℕ) (items : List Item) (q : Queue) (h : Head)
   pub count-is : estimates .count ≡ h .standing
   pub reached : Reached holidays (accountIn items q h estimates)
 
--- Lines can be fed to the parts of an account, whose items lie in the lanes, and to a line that may have begun.
+-- Lines can be fed, by a list within its bounds, to the parts of an account, whose items lie in the lanes, and to a line that may have begun.
 pub record Feedable (us bs ls holidays : List ℕ) (q : Queue) (h : Head) (estimates : Estimates) (begun : ℕ) (line : List ℕ) : Type 0 where
+  pub listed : listAllowed holidays ≡ true
   pub long : Long us bs ls
   pub lain : Lain holidays (rows us bs ls) q h estimates
   pub line-long : length line ≡ keptMost
   pub clear : begun ≡ 0 → line ≡ blankLine
 
--- A line that looks at the estimates: a reading, where some stand, by a list within its bounds; and one that does not.
-pub record LooksBack (listed : Bool) (fields : Fields) : Type 0 where
-  pub by-list : listed ≡ true
+-- A line that looks at the estimates: a reading, where some stand; and one that does not.
+pub record LooksBack (fields : Fields) : Type 0 where
   pub frame : parsedBy fields ≡ Frame (callOf fields)
   pub reading : reads (callOf fields) ≡ true
 
-abbrev pub AloneIn : Bool → ℕ → Fields → Type 0
-AloneIn listed standing fields = listed ≡ true → (fields .width ≡ 0 → ⊥) → reads (callOf fields) ≡ true → standing ≡ 0
+abbrev pub AloneIn : ℕ → Fields → Type 0
+AloneIn standing fields = (fields .width ≡ 0 → ⊥) → reads (callOf fields) ≡ true → standing ≡ 0
 
 -- A line can be planned on the head alone, its volumes stored in seven places.
-pub record LinePlannable (h : Head) (listed : Bool) (fields : Fields) (volumes : List ℕ) : Type 0 where
+pub record LinePlannable (h : Head) (fields : Fields) (volumes : List ℕ) : Type 0 where
   pub bounds : HeadBounds h
   pub small : SmallIn fields
-  pub alone : AloneIn listed (h .standing) fields
+  pub alone : AloneIn (h .standing) fields
   pub seven : length volumes ≡ 7
 
 -- A line planned: 40 where it is no frame.
@@ -55,12 +56,6 @@ abbrev pub PlanOf : Head → Estimates → Parsed → List ℕ → Plan → List
 PlanOf h estimates (Frame call) before r after =
     (r ≡ planned h (Sharing.standing estimates) call) × (after ≡ filledWith (plannedVolumes h (Sharing.standing estimates) call) before)
 PlanOf h estimates NotAFrame before r after = r ≡ quietPlan 40 h
-
--- 14 first, where the list of closed days breaks its bounds.
-pub record Planned (listed : Bool) (h : Head) (estimates : Estimates) (line : Parsed) (before : List ℕ) (r : Plan) (after : List ℕ)
-    : Type 0 where
-  pub unlisted : listed ≡ false → r ≡ quietPlan 14 h
-  pub read : listed ≡ true → PlanOf h estimates line before r after
 
 -- A plan entered: where it is refused or asks nothing, all stays as it lies.
 abbrev pub unasked : ℕ → Queue → Entered

@@ -12,7 +12,7 @@ ghost use Rattle.answers.specs.Answers.{answerLine, longestAnswer};
 ghost use Rattle.feeding.specs.Reached.{Ready};
 ghost use Rattle.lines.specs.Feeding.{feeding, finishing, fedOf};
 ghost use Rattle.lines.specs.Going.{state};
-ghost use Rattle.feeding.specs.Working.{accountIn, Feedable, LooksBack, AloneIn, LinePlannable, Planned, unasked, Enters};
+ghost use Rattle.feeding.specs.Working.{accountIn, Feedable, LooksBack, AloneIn, LinePlannable, PlanOf, unasked, Enters};
 ghost use Rattle.feeding.specs.Working.{headAfter, answerOf, Runs, handedBack};
 use frames::Fields;
 use intake::Head;
@@ -49,6 +49,9 @@ pub fn feed(state: State, holidays: &[u16], input: &[u8], out: &mut [u8]) -> Fed
     ensures { λ r. ⌜ (r .taken ≤ length (now (input .entry))) × (r .written ≤ length (now (out .entry))) ⌝ }
     ensures { λ r. ⌜ Ready (now (holidays .entry)) (r .state) ⌝ }
 {
+    if !duedays::is_list_allowed(holidays) {
+        return lines::decline_lines(state, input, out);
+    }
     let account = state.account;
     let ledger = account.ledger;
     let items = ledger.items;
@@ -93,7 +96,8 @@ fn handed_back(went: Went, items: [Item; CAPACITY], line: [u8; KEPT_MOST]) -> Fe
     }
 }
 
-// The lines of a piece, one after another: each is read, planned on the head, entered where the items lie, and its answer written.
+// The lines of a piece by a list within its bounds, one after another: each is read, planned on the head, entered where the items lie,
+// and its answer written.
 fn feed_lines(
     head: Head,
     estimates: Estimates,
@@ -114,7 +118,6 @@ fn feed_lines(
         (rows (now (unpaid .exit)) (now (amount .exit)) (now (label .exit))) (now (line .exit)) (now (out .exit)) r ⌝ }
     ensures { λ _. ⌜ Long (now (unpaid .exit)) (now (amount .exit)) (now (label .exit)) ⌝ }
 {
-    let listed = duedays::is_list_allowed(holidays);
     let values = frames::value_table();
     let pairs = answers::pair_table();
     let mut head = head;
@@ -132,10 +135,10 @@ fn feed_lines(
         }
         let fields = next.fields;
         let mut volumes = [0u32; 7];
-        let plan = if looks_back(listed, head.standing, fields) {
+        let plan = if looks_back(head.standing, fields) {
             plan::plans::plan_over(head, estimates, frames::call_of(fields), &mut volumes)
         } else {
-            plan_line(head, listed, fields, &mut volumes)
+            plan_line(head, fields, &mut volumes)
         };
         let entered = enter_plan(unpaid, amount, label, holidays, queue, plan);
         queue = entered.queue;
@@ -157,15 +160,12 @@ fn feed_lines(
 }
 
 // Whether a line looks at the estimates: so they are handed over only there.
-fn looks_back(listed: bool, standing: usize, fields: Fields) -> bool
+fn looks_back(standing: usize, fields: Fields) -> bool
     requires { ⌜ SmallIn fields ⌝ }
-    ensures { λ r. ⌜ (r ≡ true → LooksBack listed fields) ⌝ }
-    ensures { λ r. ⌜ (r ≡ false → AloneIn listed standing fields) ⌝ }
+    ensures { λ r. ⌜ (r ≡ true → LooksBack fields) ⌝ }
+    ensures { λ r. ⌜ (r ≡ false → AloneIn standing fields) ⌝ }
 {
     if standing == 0 {
-        return false;
-    }
-    if !listed {
         return false;
     }
     if fields.width == 0 {
@@ -174,16 +174,13 @@ fn looks_back(listed: bool, standing: usize, fields: Fields) -> bool
     plan::plans::over(standing, frames::call_of(fields))
 }
 
-// A line planned on the head alone. 14: the list breaks its bounds; 40: the line is no frame.
-fn plan_line(head: Head, listed: bool, fields: Fields, volumes: &mut [u32; 7]) -> Plan
-    requires { ⌜ LinePlannable head listed fields (now volumes) ⌝ }
+// A line planned on the head alone. 40: it is no frame.
+fn plan_line(head: Head, fields: Fields, volumes: &mut [u32; 7]) -> Plan
+    requires { ⌜ LinePlannable head fields (now volumes) ⌝ }
     ensures { λ r. ⌜
         ((estimates : Estimates) → estimates .count ≡ head .standing
-        → Planned listed head estimates (parsedBy fields) (now (volumes .entry)) r (now (volumes .exit))) ⌝ }
+        → PlanOf head estimates (parsedBy fields) (now (volumes .entry)) r (now (volumes .exit))) ⌝ }
 {
-    if !listed {
-        return plan::plans::quiet(14, head);
-    }
     if fields.width == 0 {
         return plan::plans::quiet(40, head);
     }

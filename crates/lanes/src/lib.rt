@@ -3,14 +3,13 @@ ghost use mathlib.Core.Path.{_≡_};
 ghost use mathlib.Core.List.{_++_};
 ghost use Prim.Native.Nat.{ℕ, _+_, _≤_, _<_};
 ghost use lib.ListN.{getD, set, take, drop};
-ghost use mathlib.Core.Bool.{true};
 ghost use Rattle.lists.specs.Pad.{pad};
-ghost use Rattle.duedays.specs.DueDays.{listAllowed};
-ghost use Rattle.ledger.specs.Limits.{lastCallDay, capacity, lanePlaces};
+ghost use Rattle.ledger.specs.Limits.{capacity, lanePlaces};
 ghost use Rattle.ledger.specs.Posting.{standing, coverage, blank};
 ghost use Rattle.ledger.specs.Entries.{Enterable, Within, Answered};
 ghost use Rattle.ledger.specs.Numbers.{places, posted};
 ghost use Rattle.lanes.specs.Lanes.{kindLabel, labelOf, itemOf, rows, Long, Coverable, Workable, Worked};
+use duedays::due_day;
 use ledger::BLANK;
 use ledger::Coverage;
 use ledger::Entered;
@@ -89,12 +88,13 @@ pub fn enter(
     }
     let at = front + cover.covered;
     unpaid[at] -= settled.paid;
+    let due = due_day(holidays, entry.day);
     let first = front + count;
     let second = post_item(
         unpaid,
         amount,
         label,
-        holidays,
+        due,
         first,
         Kind::Interest,
         entry.day,
@@ -105,7 +105,7 @@ pub fn enter(
         unpaid,
         amount,
         label,
-        holidays,
+        due,
         second,
         Kind::Price,
         entry.day,
@@ -116,7 +116,7 @@ pub fn enter(
         unpaid,
         amount,
         label,
-        holidays,
+        due,
         third,
         Kind::Interest,
         entry.day,
@@ -178,7 +178,7 @@ fn post_item(
     unpaid: &mut [u64; LANE_PLACES],
     amount: &mut [u64; LANE_PLACES],
     label: &mut [u64; LANE_PLACES],
-    holidays: &[u16],
+    due: u16,
     at: usize,
     kind: Kind,
     day: u16,
@@ -187,19 +187,17 @@ fn post_item(
 ) -> usize
     requires { ⌜ Long (now unpaid) (now amount) (now label) ⌝ }
     requires { ⌜ at < lanePlaces ⌝ }
-    requires { ⌜ day ≤ lastCallDay ⌝ }
-    requires { ⌜ listAllowed (now holidays) ≡ true ⌝ }
     ensures { λ r. ⌜ r ≡ at + places left ⌝ }
     ensures { λ _. ⌜ ((front count : ℕ) → front + count ≡ at
         → take (count + places left) (drop front (rows (now (unpaid .exit)) (now (amount .exit)) (now (label .exit)))) ≡
         take count (drop front (rows (now (unpaid .entry)) (now (amount .entry)) (now (label .entry)))) ++
-        posted (now (holidays .entry)) kind day sum left) ⌝ }
+        posted due kind day sum left) ⌝ }
     ensures { λ _. ⌜ Long (now (unpaid .exit)) (now (amount .exit)) (now (label .exit)) ⌝ }
 {
     if left == 0 {
         return at;
     }
-    let item = made_item(holidays, kind, day, sum, left);
+    let item = made_item(due, kind, day, sum, left);
     put(unpaid, amount, label, at, item);
     at + 1
 }

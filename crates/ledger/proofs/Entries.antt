@@ -1,5 +1,6 @@
 -- What an entry asks is what the numbers say of it. Assumes nothing.
 use Rattle.common.proofs.Words.{_≡_, refl, cond, List, [], _++_, ℕ, _+_, _-_, add-zero, sub-zero, sub-self, arith, drop}
+use Rattle.duedays.specs.DueDays.{dueDay}
 use Rattle.ledger.specs.Posting.{Standing, entered, post, paid, noneHeld, heldPosted, Ready}
 use Rattle.ledger.specs.Numbers.{afterPaid, heldAsked, afterHeld, chargeAsked, afterCharge, heldOn, arisenAsked, afterArisen}
 use Rattle.ledger.specs.Numbers.{settledBy, lessPaid, posted, itemsAfter, queueOf}
@@ -54,8 +55,9 @@ module _ (holidays : List ℕ) {e : Entry} {s : Standing} {cover : Coverage} (w 
     -- the items once a closing has posted
     abbrev taken-items : List Item
     taken-items =
-        (lessPaid (afterPaid q e cover .part) rest ++ posted holidays Interest day (heldAsked q e cover) (afterHeld q e cover .part)) ++
-        posted holidays Price day (chargeAsked q e cover) (afterCharge q e cover .part)
+        let due = dueDay holidays day in
+        (lessPaid (afterPaid q e cover .part) rest ++ posted due Interest day (heldAsked q e cover) (afterHeld q e cover .part)) ++
+        posted due Price day (chargeAsked q e cover) (afterCharge q e cover .part)
 
     pub taken-known : Known (taken holidays e s) (afterCharge q e cover .tally) taken-items (heldOn q e cover)
     unfolding taken-step in-step

@@ -34,12 +34,12 @@ part-oldest front (suc count) paid items h =
     )
 
 -- An item is stored behind the last; where nothing of it is unpaid, its place stays free.
-pub part-behind : (holidays : List ℕ) (kind : Kind) (day amount unpaid front count at : ℕ) (items : List Item) → front + count ≡ at → at < length items
-    → part front (count + places unpaid) (set items at (made holidays kind day amount unpaid)) ≡
-    part front count items ++ posted holidays kind day amount unpaid
+pub part-behind : (due : ℕ) (kind : Kind) (day amount unpaid front count at : ℕ) (items : List Item) → front + count ≡ at → at < length items
+    → part front (count + places unpaid) (set items at (made due kind day amount unpaid)) ≡
+    part front count items ++ posted due kind day amount unpaid
 unfolding places posted
-part-behind holidays kind day amount unpaid front count at items e h =
-    let item = made holidays kind day amount unpaid in
+part-behind due kind day amount unpaid front count at items e h =
+    let item = made due kind day amount unpaid in
     let rest = drop front items in
     let room : count < length rest = rw (length-drop front items) (omega arith) in
     rw (← e, drop-set-add front items count item)
@@ -54,14 +54,14 @@ pub places-some : (unpaid : ℕ) → (unpaid ≡ 0 → ⊥) → places unpaid �
 unfolding places
 places-some unpaid some = rw (lt-ltb 0 unpaid (omega arith))
 
-pub part-none : (holidays : List ℕ) (kind : Kind) (day amount unpaid front count : ℕ) (items : List Item) → unpaid ≡ 0
-    → part front (count + places unpaid) items ≡ part front count items ++ posted holidays kind day amount unpaid
+pub part-none : (due : ℕ) (kind : Kind) (day amount unpaid front count : ℕ) (items : List Item) → unpaid ≡ 0
+    → part front (count + places unpaid) items ≡ part front count items ++ posted due kind day amount unpaid
 unfolding places posted
-part-none holidays kind day amount unpaid front count items e = rw (e, add-zero count, append-nil (part front count items))
+part-none due kind day amount unpaid front count items e = rw (e, add-zero count, append-nil (part front count items))
 
-pub length-posted : (holidays : List ℕ) (kind : Kind) (day amount unpaid : ℕ) → length (posted holidays kind day amount unpaid) ≡ places unpaid
+pub length-posted : (due : ℕ) (kind : Kind) (day amount unpaid : ℕ) → length (posted due kind day amount unpaid) ≡ places unpaid
 unfolding places posted
-length-posted holidays kind day amount unpaid = by-test (ltb 0 unpaid) (λ e. rw e) (λ e. rw e)
+length-posted due kind day amount unpaid = by-test (ltb 0 unpaid) (λ e. rw e) (λ e. rw e)
 
 pub places-most : (unpaid : ℕ) → places unpaid ≤ 1
 unfolding places

@@ -4,6 +4,7 @@ use Rattle.common.proofs.Words.{take, drop, length-append, length-drop, length-
 use Rattle.lists.specs.{Pad.pad, Every.Every}
 use Rattle.common.proofs.Cases.{cond-most}
 use Rattle.lists.proofs.Every.{every-at}
+use Rattle.duedays.specs.DueDays.{dueDay}
 use Rattle.ledger.specs.Limits.{lastCallDay, capacity, mostArisen, mostOwed, lanePlaces, mostEnd}
 use Rattle.ledger.specs.Posting.{Standing, coverage, blank, standing, stored, ItemBounds}
 use Rattle.ledger.specs.Entries.{asked, numberOf, next, interestPosted, EntryBounds, Within}
@@ -107,15 +108,18 @@ module _ (k : Settling) where
   abbrev pub stayed : List Item
   stayed = lessPaid (r .paid) rest
 
-  -- and what is posted behind them
-  abbrev pub held-item : List Item
-  held-item = posted holidays Interest (e .day) (r .held) (r .heldleft)
+  -- and what is posted behind them, all with one due day
+  abbrev pub due : ℕ
+  due = dueDay holidays (e .day)
 
-  abbrev pub charge-item : List Item
-  charge-item = posted holidays Price (e .day) (r .charge) (r .chargeleft)
+  abbrev pub held-item : ℕ → List Item
+  held-item due = posted due Interest (e .day) (r .held) (r .heldleft)
 
-  abbrev pub arisen-item : List Item
-  arisen-item = posted holidays Interest (e .day) (r .arisen) (r .arisenleft)
+  abbrev pub charge-item : ℕ → List Item
+  charge-item due = posted due Price (e .day) (r .charge) (r .chargeleft)
+
+  abbrev pub arisen-item : ℕ → List Item
+  arisen-item due = posted due Interest (e .day) (r .arisen) (r .arisenleft)
 
   -- the numbers of the queue are those of what stands
   settled-is : r ≡ settledBy (queueOf (q .front) s) e cover

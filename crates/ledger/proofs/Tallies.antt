@@ -4,6 +4,7 @@ use Rattle.common.proofs.Words.{length, getD, drop, length-append, length-drop,
 use Rattle.common.proofs.Words.{ne-eqb}
 use Rattle.common.proofs.Cases.{by-order}
 use Rattle.lists.proofs.Sum.{total-append}
+use Rattle.duedays.specs.DueDays.{dueDay}
 use Rattle.ledger.specs.Settling.{Settlement, reduced, settle, unpaidOf}
 use Rattle.ledger.specs.Posting.{Standing, newItem, entered, post, paid, settledWith, coverage, blank, Ready}
 use Rattle.ledger.specs.Numbers.{posting, paying, lessPaid, posted}
@@ -32,7 +33,9 @@ module _ (holidays : List ℕ) (kind : Kind) (day amount : ℕ) (x : Standing) (
   step = posting (tallyOf x) amount
 
   abbrev PostKnown : Type 0
-  PostKnown = Known (postOne holidays kind day amount x) (step .tally) (x .open-items ++ posted holidays kind day amount (step .part)) (x .held)
+  PostKnown =
+      let item = posted (dueDay holidays day) kind day amount (step .part) in
+      Known (postOne holidays kind day amount x) (step .tally) (x .open-items ++ item) (x .held)
 
   post-known : PostKnown
   unfolding posting posted
@@ -67,7 +70,7 @@ module _ {x : Standing} {t : Tally} {items : List Item} {held : ℕ} (w : Known 
 
   pub known-post : (holidays : List ℕ) (kind : Kind) (day amount : ℕ)
       → let step = posting t amount in
-      Known (postOne holidays kind day amount x) (step .tally) (items ++ posted holidays kind day amount (step .part)) held
+      Known (postOne holidays kind day amount x) (step .tally) (items ++ posted (dueDay holidays day) kind day amount (step .part)) held
   known-post holidays kind day amount =
       rw (← w .tally-is, ← w .items-are, ← w .held-is) (post-known holidays kind day amount x (w .ready))
 

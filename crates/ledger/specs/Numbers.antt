@@ -3,6 +3,7 @@ use mathlib.Core.List.{List, [], _∷_, _++_}
 use mathlib.Core.{Path._≡_, Bool.cond}
 use Prim.Native.Nat.{ℕ, _+_, _-_, _*_, _≤_, _<_}
 use lib.{Dec.leb, Dec.ltb, Dec.eqb, ListN.length, ListN.take, ListN.drop}
+use Rattle.duedays.specs.DueDays.{dueDay}
 use Rattle.ledger.specs.Limits.{capacity, mostPrice, mostInterest, mostMoney, mostCredit, lanePlaces}
 use Rattle.ledger.specs.{declared.Kind.Kind, declared.Kind.the-variants.Interest, declared.Kind.the-variants.Price}
 use Rattle.ledger.specs.{declared.Item.Item, declared.Ledger.Ledger, declared.Coverage.Coverage, Settling.reduced, Settling.unpaidOf}
@@ -95,14 +96,15 @@ lessPaid part (item ∷ items) = reduced item part ∷ items
 unfoldable pub places : ℕ → ℕ
 places unpaid = cond (ltb 0 unpaid) 1 0
 
-unfoldable pub posted : List ℕ → Kind → ℕ → ℕ → ℕ → List Item
-posted holidays kind day amount unpaid = cond (ltb 0 unpaid) (made holidays kind day amount unpaid ∷ []) []
+unfoldable pub posted : ℕ → Kind → ℕ → ℕ → ℕ → List Item
+posted due kind day amount unpaid = cond (ltb 0 unpaid) (made due kind day amount unpaid ∷ []) []
 
 abbrev pub itemsAfter : List ℕ → ℕ → Settled → List Item → List Item
 itemsAfter holidays day r rest =
-    ((lessPaid (r .paid) rest ++ posted holidays Interest day (r .held) (r .heldleft)) ++
-    posted holidays Price day (r .charge) (r .chargeleft)) ++
-    posted holidays Interest day (r .arisen) (r .arisenleft)
+    let due = dueDay holidays day in
+    ((lessPaid (r .paid) rest ++ posted due Interest day (r .held) (r .heldleft)) ++
+    posted due Price day (r .charge) (r .chargeleft)) ++
+    posted due Interest day (r .arisen) (r .arisenleft)
 
 -- A queue of the numbers of what stands, from this place on.
 abbrev pub queueOf : ℕ → Standing → Queue

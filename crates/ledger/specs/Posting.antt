@@ -25,13 +25,12 @@ pub record Standing : Type 0 where
   pub credit : ℕ
   pub held : ℕ
 
--- An item of a day, with what is unpaid of it; a new one, all of it. Its due day goes by the list of closed days.
-abbrev pub made : List ℕ → Kind → ℕ → ℕ → ℕ → Item
-made holidays kind day amount unpaid =
-    record { amount = amount; unpaid = unpaid; obligation = day; due = dueDay holidays day; kind = kind }
+-- An item of a day and a due day, with what is unpaid of it; a new one, all of it, and its due day goes by the list of closed days.
+abbrev pub made : ℕ → Kind → ℕ → ℕ → ℕ → Item
+made due kind day amount unpaid = record { amount = amount; unpaid = unpaid; obligation = day; due = due; kind = kind }
 
 abbrev pub newItem : List ℕ → Kind → ℕ → ℕ → Item
-newItem holidays kind day amount = made holidays kind day amount amount
+newItem holidays kind day amount = made (dueDay holidays day) kind day amount amount
 
 -- An amount above zero is posted as an item.
 unfoldable pub entered : List ℕ → Kind → ℕ → ℕ → List Item

@@ -3,18 +3,16 @@ ghost use mathlib.Core.Path.{_≡_};
 ghost use mathlib.Core.Bool.{true};
 ghost use mathlib.Core.List.{[]};
 ghost use Prim.Native.Nat.{_≤_};
-ghost use Rattle.duedays.specs.DueDays.{listAllowed};
 ghost use Rattle.ledger.specs.Interest.{isPrice, body, interestOn};
 ghost use Rattle.ledger.specs.Settling.{unpaidOf};
 ghost use Rattle.ledger.specs.Posting.{made, stored, standing, chargeOf, creditOf, OpenBounds, NetBounds};
-ghost use Rattle.ledger.specs.Limits.{lastCallDay, mostPrice};
+ghost use Rattle.ledger.specs.Limits.{mostPrice};
 ghost use Rattle.ledger.specs.Numbers.{queueIn, ledgerOf};
 
 pub mod limits;
 pub mod numbers;
 
 use crate::limits::CAPACITY;
-use duedays::due_day;
 
 pub enum Kind {
     Interest,
@@ -140,17 +138,15 @@ pub fn ledger_of(queue: Queue, items: [Item; CAPACITY]) -> Ledger
     }
 }
 
-// An item of a day, with what is unpaid of it.
-pub fn made_item(holidays: &[u16], kind: Kind, day: u16, amount: u64, unpaid: u64) -> Item
-    requires { ⌜ listAllowed (now holidays) ≡ true ⌝ }
-    requires { ⌜ day ≤ lastCallDay ⌝ }
-    ensures { λ r. ⌜ r ≡ made (now (holidays .entry)) kind day amount unpaid ⌝ }
+// An item of a day and a due day, with what is unpaid of it.
+pub fn made_item(due: u16, kind: Kind, day: u16, amount: u64, unpaid: u64) -> Item
+    ensures { λ r. ⌜ r ≡ made due kind day amount unpaid ⌝ }
 {
     Item {
         amount,
         unpaid,
         obligation: day,
-        due: due_day(holidays, day),
+        due,
         kind,
     }
 }

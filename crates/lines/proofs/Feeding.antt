@@ -83,12 +83,14 @@ pub finish-none : (holidays : List ℕ) (room : ℕ) (s : State) → s .length �
 unfolding finishing
 finish-none holidays room s e = rw (eq-eqb (s .length) 0 e) refl
 
-pub finish-line : (holidays : List ℕ) (room : ℕ) (s : State) → (s .length ≡ 0 → ⊥) → finishing holidays room s ≡ feeding holidays room s (lineFeed ∷ [])
+pub finish-line : (holidays : List ℕ) (room : ℕ) (s : State) → (s .length ≡ 0 → ⊥)
+    → finishing holidays room s ≡ feeding holidays room s (lineFeed ∷ [])
 unfolding finishing
 finish-line holidays room s n = rw (ne-eqb (s .length) 0 n) refl
 
 -- Where there is room for a line, feeding goes on.
-pub taken-some : (holidays : List ℕ) (room : ℕ) (s : State) (bytes : List ℕ) → longestAnswer ≤ room → 1 ≤ length bytes → 1 ≤ feeding holidays room s bytes .taken
+pub taken-some : (holidays : List ℕ) (room : ℕ) (s : State) (bytes : List ℕ) → longestAnswer ≤ room → 1 ≤ length bytes
+    → 1 ≤ feeding holidays room s bytes .taken
 unfolding feeding
 taken-some holidays room s [] h k = absurd (not-suc-le-zero k)
 taken-some holidays room s (c ∷ cs) h k = go (eqb c lineFeed) refl

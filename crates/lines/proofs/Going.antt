@@ -166,7 +166,8 @@ module _ {input : List ℕ} {at : ℕ} {call : Call} {width : ℕ} (l : Lies inp
 
   -- A whole frame taken where it lies is what its bytes and LF, fed one by one, make.
   frame-taken : (room : ℕ) (holidays : List ℕ) (a : Account) → longestAnswer ≤ room
-      → Leads at (at + width + 1) (fedFrom holidays input at room (between a)) (fedBehind holidays input (at + width + 1) room (parsedOutcome holidays a (Frame call)))
+      → Leads at (at + width + 1) (fedFrom holidays input at room (between a))
+      (fedBehind holidays input (at + width + 1) room (parsedOutcome holidays a (Frame call)))
   frame-taken room holidays a left =
       let f = front-kept width (omega arith) in
       leads-on (f .keeping .leads holidays a room)
@@ -176,7 +177,8 @@ module _ {input : List ℕ} {at : ℕ} {call : Call} {width : ℕ} (l : Lies inp
 found-ended : {input : List ℕ} {from room begun taken : ℕ} {line after : List ℕ} {fields : Fields}
     → after ≡ blankLine → taken ≤ length input → from < taken → longestAnswer ≤ room → SmallIn fields
     → ((holidays : List ℕ) (a : Account)
-    → Leads from taken (fedFrom holidays input from room (state a begun line)) (fedBehind holidays input taken room (parsedOutcome holidays a (parsedBy fields))))
+    → Leads from taken (fedFrom holidays input from room (state a begun line))
+    (fedBehind holidays input taken room (parsedOutcome holidays a (parsedBy fields))))
     → Found input from room begun line after (endedAt fields taken)
 found-ended blank within onward left small leads =
     record {
@@ -193,7 +195,8 @@ module _ {input : List ℕ} {from begun : ℕ} {line kept : List ℕ} {r : Kept}
   stands a = state a (r .length) kept
 
   module _ (clear : begun ≡ 0 → line ≡ blankLine) where
-    found-waiting : ((holidays : List ℕ) (a : Account) → Leads (r .taken) (r .taken) (fedFrom holidays input (r .taken) room (stands a)) (nothing (stands a)))
+    found-waiting : ((holidays : List ℕ) (a : Account)
+        → Leads (r .taken) (r .taken) (fedFrom holidays input (r .taken) room (stands a)) (nothing (stands a)))
         → Found input from room begun line kept (waitingAt (r .taken) (r .length))
     found-waiting stops =
         record {
@@ -211,11 +214,17 @@ module _ {input : List ℕ} {from begun : ℕ} {line kept : List ℕ} {r : Kept}
         → Found input from room begun line kept (waitingAt (r .taken) (r .length))
     found-no-room more short = found-waiting (λ holidays a. line-waits holidays input (r .taken) room (stands a) more (k .ends more) short)
 
+  pub kept-ends : r .taken < length input → longestAnswer ≤ room → (holidays : List ℕ) (a : Account) {p : Parsed} → parsed (take (r .length) kept) ≡ p
+      → Leads from (r .taken + 1) (fedFrom holidays input from room (state a begun line))
+      (fedBehind holidays input (r .taken + 1) room (parsedOutcome holidays a p))
+  kept-ends more left holidays a is =
+      leads-on (k .leads holidays a room) (line-ends holidays input (r .taken) room (stands a) more (k .ends more) left is)
+
   pub found-kept : r .taken < length input → longestAnswer ≤ room → {fields : Fields} → ReadIn (take (r .length) kept) fields
       → {after : List ℕ} → after ≡ blankLine → Found input from room begun line after (endedAt fields (r .taken + 1))
   found-kept more left read blank =
       found-ended blank (omega arith) (omega (arith, k .onward)) left (read .small)
-      (λ holidays a. leads-on (k .leads holidays a room) (line-ends holidays input (r .taken) room (stands a) more (k .ends more) left (read .is)))
+      (λ holidays a. kept-ends more left holidays a (read .is))
 
 pub found-frame : {input : List ℕ} {from room begun : ℕ} {line : List ℕ} {fields : Fields}
     → begun ≡ 0 → line ≡ blankLine → (fields .width ≡ 0 → ⊥) → ReadAt input from fields → longestAnswer ≤ room

@@ -1,3 +1,4 @@
 -- Laws of feeding.
 pub mod Feeding
 pub mod Going
+pub mod Declining

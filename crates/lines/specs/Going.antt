@@ -3,10 +3,11 @@ use mathlib.Core.{Path._≡_, Bool.true, Bool.false, List.List, List._++_}
 use Prim.Native.Nat.{ℕ, _+_, _-_, _≤_, _<_}
 use lib.ListN.{length, getD, drop}
 use Rattle.account.specs.{declared.Account.Account, declared.Outcome.Outcome}
-use Rattle.frames.specs.{declared.Fields.Fields, Numbers.parsedBy, Numbers.noFields, Numbers.SmallIn, Digits.lineFeed, Digits.ValueTable}
+use Rattle.frames.specs.{declared.Fields.Fields, Numbers.parsedBy, Numbers.noFields, Numbers.SmallIn}
+use Rattle.frames.specs.Digits.{lineFeed, written, ValueTable}
 use Rattle.answers.specs.Answers.{answerLine, longestAnswer}
-use Rattle.lines.specs.Feeding.{keptMost, blankLine, between, Feeding, nothing, feeding}
-use Rattle.lines.specs.{declared.State.State, declared.Kept.Kept, declared.Next.Next, Line.parsedOutcome}
+use Rattle.lines.specs.Feeding.{keptMost, blankLine, between, Feeding, nothing, feeding, fedOf}
+use Rattle.lines.specs.{declared.State.State, declared.Fed.Fed, declared.Kept.Kept, declared.Next.Next, Line.parsedOutcome}
 
 abbrev pub state : Account → ℕ → List ℕ → State
 state account long line = record { account = account; length = long; line = line }
@@ -73,3 +74,12 @@ endedAt fields taken = record { ended = true; fields = fields; taken = taken; le
 
 abbrev pub waitingAt : ℕ → ℕ → Next
 waitingAt taken kept = record { ended = false; fields = noFields; taken = taken; length = kept }
+
+-- What a piece makes of a state by a list that breaks its bounds: the account stays.
+pub record Declines (holidays input text : List ℕ) (s : State) (out : List ℕ) (r : Fed) : Type 0 where
+  pub fed : r ≡ fedOf (feeding holidays (length text) s input)
+  pub text-is : out ≡ written text 0 (feeding holidays (length text) s input .output)
+  pub taken-most : r .taken ≤ length input
+  pub written-most : r .written ≤ length text
+  pub account-is : r .state .account ≡ s .account
+  pub clear : r .state .length ≡ 0 → r .state .line ≡ blankLine

@@ -1,10 +1,12 @@
 // The next line of a household's file that comes in pieces: a frame where it lies, and else its characters as they come.
 ghost use mathlib.Core.Path.{_≡_};
 ghost use mathlib.Core.Bool.{true, false};
-ghost use Prim.Native.Nat.{_+_, min, _≤_};
+ghost use mathlib.Core.List.{List};
+ghost use Prim.Native.Nat.{ℕ, _+_, min, _≤_};
 ghost use lib.ListN.{length};
+ghost use Rattle.duedays.specs.DueDays.{listAllowed};
 ghost use Rattle.lines.specs.Feeding.{keptMost, blankLine, fresh};
-ghost use Rattle.lines.specs.Going.{Seeking, Keeps, Found, waitingAt};
+ghost use Rattle.lines.specs.Going.{Seeking, Keeps, Found, waitingAt, Declines};
 use account::Account;
 use answers::LONGEST_ANSWER;
 use frames::Fields;
@@ -116,6 +118,45 @@ fn waiting(taken: usize, kept: usize) -> Next
         fields: frames::no_frame(),
         taken,
         length: kept,
+    }
+}
+
+// The lines of a piece by a list that breaks its bounds: 14 for each.
+pub fn decline_lines(state: State, input: &[u8], out: &mut [u8]) -> Fed
+    requires { ⌜ (state .length ≡ 0 → state .line ≡ blankLine) ⌝ }
+    ensures { λ r. ⌜
+        ((holidays : List ℕ) → listAllowed holidays ≡ false
+        → Declines holidays (now (input .entry)) (now (out .entry)) state (now (out .exit)) r) ⌝ }
+{
+    let pairs = answers::pair_table();
+    let account = state.account;
+    let mut line = state.line;
+    let mut length = state.length;
+    let mut taken: usize = 0;
+    let mut written: usize = 0;
+    while taken < input.len() {
+        let kept = keep_characters(input, taken, &mut line, length);
+        taken = kept.taken;
+        length = kept.length;
+        if taken == input.len() {
+            break;
+        }
+        if out.len() - written < LONGEST_ANSWER {
+            break;
+        }
+        written = answers::put_refusal(14, out, written, &pairs);
+        line = [0u8; KEPT_MOST];
+        length = 0;
+        taken += 1;
+    }
+    Fed {
+        state: State {
+            account,
+            length,
+            line,
+        },
+        taken,
+        written,
     }
 }
 

@@ -45,7 +45,8 @@ pub text-behind : (holidays : List ℕ) (a : Account) (lines more : List (List �
     → textOf holidays a (lines ++ more) ≡ textOf holidays a lines ++ textOf holidays (accountAfter holidays a lines) more
 text-behind holidays a lines more = rw (answers-behind holidays a lines more, joined-behind answerLine)
 
-pub account-behind : (holidays : List ℕ) (a : Account) (lines more : List (List ℕ)) → accountAfter holidays a (lines ++ more) ≡ accountAfter holidays (accountAfter holidays a lines) more
+pub account-behind : (holidays : List ℕ) (a : Account) (lines more : List (List ℕ))
+    → accountAfter holidays a (lines ++ more) ≡ accountAfter holidays (accountAfter holidays a lines) more
 unfolding accountAfter
 account-behind holidays a [] more = refl
 account-behind holidays a (line ∷ lines) more = account-behind holidays (lineOutcome holidays a line .account) lines more

@@ -70,7 +70,8 @@ module _ (holidays : List ℕ) {s : State} {part : List ℕ} (h : Holds s part) 
   went-nothing bytes = record { holds = h; account-is = refl; output-is = refl }
 
   module _ {c : ℕ} {cs : List ℕ} {f : Feeding} where
-    went-end : eqb c lineFeed ≡ true → Went holidays (ended holidays s) [] cs f → Went holidays s part (c ∷ cs) (behind (answerLine (lineEnds holidays s .answer)) f)
+    went-end : eqb c lineFeed ≡ true → Went holidays (ended holidays s) [] cs f
+        → Went holidays s part (c ∷ cs) (behind (answerLine (lineEnds holidays s .answer)) f)
     unfolding partAfter linesIn accountAfter answersOf
     went-end e w =
         record {
@@ -95,7 +96,10 @@ went holidays (c ∷ cs) room {s} h =
     by-test (eqb c lineFeed)
     (λ e.
     by-test (ltb room longestAnswer) (λ r. rw (e, r) (went-nothing holidays h (c ∷ cs)))
-    (λ r. rw (e, r) (went-end holidays h e (went holidays cs (room - length (answerLine (lineEnds holidays s .answer))) (holds-none (lineEnds holidays s .account))))))
+    (λ r.
+    rw (e, r)
+    (went-end holidays h e
+    (went holidays cs (room - length (answerLine (lineEnds holidays s .answer))) (holds-none (lineEnds holidays s .account))))))
     (λ e. rw e (went-kept holidays h e (went holidays cs room (holds-kept h c))))
 
 pub stands-start : (holidays : List ℕ) → Stands holidays [] [] fresh
@@ -183,7 +187,8 @@ pub follows-on : (holidays seen : List ℕ) (s : State) (room : ℕ) (bytes : Li
 follows-on holidays seen s room bytes w = let next = stands-on w room bytes in rw (← made-is next) next
 
 -- And where there is room for a line, the end of the input leaves it at its end.
-pub follows-end : (holidays seen : List ℕ) (s : State) (room : ℕ) → longestAnswer ≤ room → Follows holidays seen s → AtEnd holidays seen (finishing holidays room s .state)
+pub follows-end : (holidays seen : List ℕ) (s : State) (room : ℕ) → longestAnswer ≤ room → Follows holidays seen s
+    → AtEnd holidays seen (finishing holidays room s .state)
 follows-end holidays seen s room r w = stands-end w room r .at-end
 
 -- Pieces of any sizes, cut anywhere, with any room: what they make, with what the end makes behind it, is what `bill` writes for all

@@ -91,7 +91,9 @@ all-taken holidays (c ∷ cs) room s r h =
     by-test (eqb c lineFeed)
     (λ e.
     let k : longestAnswer * (suc (endsIn cs) + 1) ≤ room = rw e at h in
-    let rest = all-taken holidays cs (room - length line) (ended holidays s) (reached-parsed holidays (s .account) (parsed (lineOf s)) r) (omega arith) in
+    let rest =
+    all-taken holidays cs (room - length line) (ended holidays s) (reached-parsed holidays (s .account) (parsed (lineOf s)) r) (omega arith)
+    in
     let is = feed-ends holidays room s c cs (eqb-true c lineFeed e) (omega arith) in
     record {
       taken-all = ap (λ (f : Feeding). f .taken) is ∙ ap suc (rest .taken-all);

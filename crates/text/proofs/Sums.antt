@@ -22,11 +22,13 @@ no-frame-account : (holidays : List ℕ) (a : Account) → parsedOutcome holiday
 no-frame-account holidays a = by-test (listAllowed holidays) (λ e. rw e) (λ e. rw e)
 
 -- The account that lines leave is the one that their calls leave: a line that is no frame changes nothing.
-pub account-run : (holidays : List ℕ) (lines : List (List ℕ)) (r : Run) → accountAfter holidays (r .account) lines ≡ run holidays r (callsOf lines) .account
+pub account-run : (holidays : List ℕ) (lines : List (List ℕ)) (r : Run)
+    → accountAfter holidays (r .account) lines ≡ run holidays r (callsOf lines) .account
 unfolding accountAfter run
 account-run holidays [] r = refl
 account-run holidays (line ∷ lines) r =
-    elim (parsed line) as (λ p. accountAfter holidays (parsedOutcome holidays (r .account) p .account) lines ≡ run holidays r (callsIn p (callsOf lines)) .account) [
+    elim (parsed line) as (λ p.
+    accountAfter holidays (parsedOutcome holidays (r .account) p .account) lines ≡ run holidays r (callsIn p (callsOf lines)) .account) [
       | Frame call ↦ rw (frame-outcome holidays (r .account) call) (account-run holidays lines (step holidays r call))
       | NotAFrame ↦ rw (no-frame-account holidays (r .account)) (account-run holidays lines r)
     ]

@@ -70,11 +70,14 @@ stateAfter holidays s (piece ∷ pieces) = stateAfter holidays (feeding holidays
 abbrev pub takenOf : List ℕ → State → List Piece → List ℕ
 takenOf holidays s [] = []
 takenOf holidays s (piece ∷ pieces) =
-    take (feeding holidays (piece .room) s (piece .bytes) .taken) (piece .bytes) ++ takenOf holidays (feeding holidays (piece .room) s (piece .bytes) .state) pieces
+    take (feeding holidays (piece .room) s (piece .bytes) .taken) (piece .bytes) ++
+    takenOf holidays (feeding holidays (piece .room) s (piece .bytes) .state) pieces
 
 abbrev pub writtenOf : List ℕ → State → List Piece → List ℕ
 writtenOf holidays s [] = []
-writtenOf holidays s (piece ∷ pieces) = feeding holidays (piece .room) s (piece .bytes) .output ++ writtenOf holidays (feeding holidays (piece .room) s (piece .bytes) .state) pieces
+writtenOf holidays s (piece ∷ pieces) =
+    feeding holidays (piece .room) s (piece .bytes) .output ++
+    writtenOf holidays (feeding holidays (piece .room) s (piece .bytes) .state) pieces
 
 -- The book of the calls among lines.
 abbrev pub bookOf : List ℕ → List (List ℕ) → Book
@@ -84,5 +87,6 @@ bookOf holidays lines = run holidays start (callsOf lines) .book
 pub record Sums (holidays : List ℕ) (lines : List (List ℕ)) : Type 0 where
   pub volumes : total finalVolume (answersOf holidays newAccount lines) ≡ bookOf holidays lines .metering .advanced
   pub yen :
-      bookOf holidays lines .money .received + unpaidOn (accountAfter holidays newAccount lines) + accountAfter holidays newAccount lines .ledger .held
-      ≡ prices (bookOf holidays lines .periods) + bookOf holidays lines .money .arisen + accountAfter holidays newAccount lines .ledger .credit
+      let book = bookOf holidays lines in
+      let account = accountAfter holidays newAccount lines in
+      book .money .received + unpaidOn account + account .ledger .held ≡ prices (book .periods) + book .money .arisen + account .ledger .credit

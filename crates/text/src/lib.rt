@@ -123,8 +123,12 @@ pub fn write_notice(input: &[u8], holidays: &[u16], out: &mut [u8]) -> usize
 fn work_input(input: &[u8], holidays: &[u16], out: &mut [u8], writing: bool) -> Billed
     requires { ⌜ length (now input) ≤ longestInput ⌝ }
     requires { ⌜ (writing ≡ true → length (bill (now holidays) (now input)) ≤ length (now out)) ⌝ }
-    ensures { λ r. ⌜ r ≡ record { account = accountAfter (now (holidays .entry)) newAccount (linesOf (now (input .entry))); size = length (bill (now (holidays .entry)) (now (input .entry))) } ⌝ }
-    ensures { λ _. ⌜ now (out .exit) ≡ cond writing (written (now (out .entry)) 0 (bill (now (holidays .entry)) (now (input .entry)))) (now (out .entry)) ⌝ }
+    ensures { λ r. ⌜ r ≡ record {
+      account = accountAfter (now (holidays .entry)) newAccount (linesOf (now (input .entry)));
+      size = length (bill (now (holidays .entry)) (now (input .entry)));
+    } ⌝ }
+    ensures { λ _. ⌜ now (out .exit) ≡
+        cond writing (written (now (out .entry)) 0 (bill (now (holidays .entry)) (now (input .entry)))) (now (out .entry)) ⌝ }
 {
     let mut state = State::new();
     let mut space = [0u8; 4096];

@@ -1,5 +1,7 @@
--- Too little is ahead, or no LF follows, or a character is no digit: then the first line ahead is not of the form (`no-day-line`); else it is.
-use Rattle.common.proofs.Words.{_≡_, sym, _∙_, List, ℕ, _+_, _-_, _≤_, _<_, arith, length, getD, drop, take, length-drop, length-take, getD-drop, true, needs}
+-- Too little is ahead, or no LF follows, or a character is no digit: then the first line ahead is not of the form (`no-day-line`);
+-- else it is.
+use Rattle.common.proofs.Words.{_≡_, sym, _∙_, true, List, ℕ, _+_, _-_, _≤_, _<_, arith, length, getD, drop, take, length-drop, length-take}
+use Rattle.common.proofs.Words.{getD-drop, needs}
 use Rattle.lists.specs.Every.{every}
 use Rattle.frames.specs.Digits.{isDigit, noDigit, lineFeed}
 use Rattle.frames.proofs.Digits.{read-digits, digits-read, read-below}

@@ -1,12 +1,11 @@
--- Line by line: the lines so far are of the form, and their days stand in the array (`Reads`). A line of another form, a line too many, and days
--- that break the bounds each make a file of another form.
+-- Line by line: the lines so far are of the form, and their days stand in the array (`Reads`). A line of another form, a line too many,
+-- and days that break the bounds each make a file of another form.
 use Rattle.common.proofs.Words.{_≡_, sym, ap, _∙_, false, List, ℕ, _-_, _*_, _%_, _≤_, arith, length, length-take-le, needs}
 use Rattle.common.proofs.Tests.{answered-no, answered-yes}
 use Rattle.duedays.specs.{Limits.mostListed, DueDays.listAllowed}
-use Rattle.closedfile.specs.{ClosedFile.isFormed, ClosedFile.brokenList, ClosedFile.listIn}
-use Rattle.closedfile.specs.ClosedFile.{held}
-use Rattle.closedfile.proofs.ClosedFile.{formed, not-formed, day-fits, Reads, reads-start, reads-on, reads-none, reads-many, days-stand}
-use Rattle.closedfile.proofs.ClosedFile.{days-long, formed-is, held-is}
+use Rattle.closedfile.specs.ClosedFile.{isFormed, brokenList, listIn, held}
+use Rattle.closedfile.proofs.ClosedFile.{formed, not-formed, day-fits, Reads, reads-start, reads-on, reads-none, reads-many}
+use Rattle.closedfile.proofs.ClosedFile.{days-stand, days-long, formed-is, held-is}
 use Rattle.closedfile.proofs.list_in.Statement.{statement}
 use Rattle.closedfile.proofs.list_in.Tie as tie
 
@@ -107,7 +106,9 @@ list-in-spec =
     (λ c. omega arith)  -- loop-less
     loop-again
     (λ c. let a : Walk tie.At-loop = search in within a)  -- array-share-prefix-days
-    (λ c. let a : Walk tie.At-loop = search in sym (length-take-le (a .loop .count) (a .loop .days) (within a)))  -- slice-aggregate-is-list-allowed
+    (λ c.
+    let a : Walk tie.At-loop = search in
+    sym (length-take-le (a .loop .count) (a .loop .days) (within a)))  -- slice-aggregate-is-list-allowed
     (λ c κs. tt)  -- is-list-allowed-requires
     (λ c κs. tt)  -- broken-list-requires-3
     returns-3

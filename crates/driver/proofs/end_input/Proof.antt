@@ -19,7 +19,8 @@ returns c = λ b.
     let start : tie.Start = search in
     let ended : tie.After-finish = search in
     let state-is = ap (λ (f : Fed). f .state) (ended .finish .ensures .0) in
-    subst (AtEnd (start .args .holidays .now) (b .seen)) (sym state-is) (follows-end (start .args .holidays .now) (b .seen) (start .args .state) _ (omega arith) (b .follows))
+    subst (AtEnd (start .args .holidays .now) (b .seen)) (sym state-is)
+    (follows-end (start .args .holidays .now) (b .seen) (start .args .state) _ (omega arith) (b .follows))
 
 pub end-input-spec : {M : Type 1} → statement M
 end-input-spec =

@@ -1,6 +1,7 @@
 -- Invariant: the state follows what was seen before the block with the block up to `at`. There is room for a line, so feeding the rest of
 -- the block takes some of it (`taken-some`), and the state follows the block up to the place behind (`follows-on`).
-use Rattle.common.proofs.Words.{_≡_, sym, ap, subst, _∙_, false≢true, List, _++_, append-assoc, append-nil, ℕ, _+_, _-_, _≤_, _<_, arith, length}
+use Rattle.common.proofs.Words.{_≡_, sym, ap, subst, _∙_, false≢true, List, _++_, append-assoc, append-nil, ℕ, _+_, _-_, _≤_, _<_, arith}
+use Rattle.common.proofs.Words.{length}
 use Rattle.common.proofs.Words.{take, drop, length-drop, length-take-le, take-all, take-add, needs}
 use Rattle.lines.specs.{declared.Fed.Fed, Feeding.feeding}
 use Rattle.lines.proofs.Feeding.{taken-some}
@@ -74,7 +75,8 @@ module _ (c : Walk tie.After-feed) where
   some : 1 ≤ fed .taken
   some =
       rw (ap (λ (f : Fed). f .taken) (c .feed .ensures .0))
-      (taken-some holidays (length (l .loop .out)) (l .loop .state) rest (rw (l .loop .inv .out-long) (omega arith)) (rw rest-long (omega arith)))
+      (taken-some holidays (length (l .loop .out)) (l .loop .state) rest (rw (l .loop .inv .out-long) (omega arith))
+      (rw rest-long (omega arith)))
 
   follows : (b : Behind holidays (s .args .state)) → Follows holidays (b .seen ++ take (at + fed .taken) block) (fed .state)
   follows b =

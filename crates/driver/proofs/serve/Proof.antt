@@ -17,7 +17,10 @@ returns-2 : tie.Need-returns-2
 returns-2 c = λ sound.
     let r : tie.After-read-closed = search in
     let from = r .read-closed .ensures in
-    record { file = from .file; finished = subst (λ days. Finished days (c .feed-input .result .state)) (front from) (c .feed-input .ensures sound) }
+    record {
+      file = from .file;
+      finished = subst (λ days. Finished days (c .feed-input .result .state)) (front from) (c .feed-input .ensures sound);
+    }
 
 pub serve-spec : {M : Type 1} → statement M
 serve-spec =

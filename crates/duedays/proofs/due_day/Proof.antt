@@ -1,5 +1,5 @@
--- Every day from the first that can be due up to `due` is listed, and `at` is its place (`FirstFrom`); where it isn't listed, it is the due day
--- (`due-only`).
+-- Every day from the first that can be due up to `due` is listed, and `at` is its place (`FirstFrom`); where it isn't listed, it is the
+-- due day (`due-only`).
 use Rattle.common.proofs.Words.{_≡_, true, List, ℕ, _+_, _-_, _≤_, _<_, arith, length, getD, needs}
 use Rattle.common.proofs.Cases.{by-order}
 use Rattle.duedays.specs.{Limits.term, DueDays.listed, DueDays.dueDay, Search.FirstFrom}
@@ -33,7 +33,8 @@ module _ (l : Walk tie.At-loop) where
   bounds = allowed (start .pre .0)
 
   -- where the day isn't listed
-  ends : (l .loop .at < length holidays → getD holidays (l .loop .at) 0 ≡ l .loop .due → ⊥) → l .loop .due ≡ dueDay holidays (start .args .day)
+  ends : (l .loop .at < length holidays → getD holidays (l .loop .at) 0 ≡ l .loop .due → ⊥)
+      → l .loop .due ≡ dueDay holidays (start .args .day)
   ends other =
       due-only holidays (start .args .day) (l .loop .due) (l .loop .inv .from) (from-open bounds (l .loop .inv .place) other)
       (l .loop .inv .passes)
@@ -55,7 +56,9 @@ loop-again c =
       place = from-next (bounds l) (inv .place) here is;
       passes =
           λ d low high. by-order d (l .loop .due) (λ below. inv .passes d low below)
-          (λ same. let at-due : d ≡ getD (holidays l) (l .loop .at) 0 = omega arith in rw at-due (listed-at (holidays l) (l .loop .at) here));
+          (λ same.
+          let at-due : d ≡ getD (holidays l) (l .loop .at) 0 = omega arith in
+          rw at-due (listed-at (holidays l) (l .loop .at) here));
     }
 
 returns : Walk tie.Need-returns

@@ -1,4 +1,5 @@
--- The days below `low` are before the day and those from `high` on are not (`Parted`); the list rises, so the day in the middle tells which half goes.
+-- The days below `low` are before the day and those from `high` on are not (`Parted`); the list rises, so the day in the middle tells
+-- which half goes.
 use Rattle.common.proofs.Words.{_≡_, List, ℕ, _+_, _-_, _/_, _≤_, _<_, arith, length, getD, needs}
 use Rattle.common.proofs.Cases.{by-order}
 use Rattle.duedays.specs.Search.{Parted}
@@ -62,7 +63,12 @@ first-from-spec =
     (tie.spec
     Inv-loop
     μ-loop
-    (λ c. record { in-order = omega arith; within = omega arith; before = λ i l. absurd (omega arith); behind = λ i l h. absurd (omega arith) })  -- loop-holds
+    (λ c. record {
+      in-order = omega arith;
+      within = omega arith;
+      before = λ i l. absurd (omega arith);
+      behind = λ i l h. absurd (omega arith);
+    })  -- loop-holds
     (λ c. omega arith)  -- sub-middle
     (λ c. omega arith)  -- add-middle
     (λ c. search needs)  -- mul-if1

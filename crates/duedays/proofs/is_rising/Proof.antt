@@ -1,5 +1,6 @@
 -- What was gathered is the test over the days passed, one day more each turn (`rising-next`).
-use Rattle.common.proofs.Words.{_≡_, refl, sym, ap, _∙_, true, List, [], _∷_, ℕ, suc, _-_, _≤_, _<_, arith, add-one, length, getD, take, take-all, needs}
+use Rattle.common.proofs.Words.{_≡_, refl, sym, ap, _∙_, true, List, [], _∷_, ℕ, suc, _-_, _≤_, _<_, arith, add-one, length, getD, take}
+use Rattle.common.proofs.Words.{take-all, needs}
 use Rattle.duedays.specs.DueDays.{rising}
 use Rattle.duedays.proofs.{Lists.rising-next, is_rising.Statement.statement}
 use Rattle.duedays.proofs.is_rising.Tie as tie

@@ -1,6 +1,7 @@
 -- The account's parts are spread, the lines worked on them, and the account gathered: it is the account that it was, and the one that its
 -- parts stand for.
 use Rattle.common.proofs.Words.{_≡_, refl, sym, ap, subst, _∙_, List, ℕ, length, needs}
+use Rattle.common.proofs.Tests.{answered-no, answered-yes}
 use Rattle.lists.proofs.Pad.{length-of-mapped}
 use Rattle.ledger.specs.{declared.Item.Item, declared.Queue.Queue, Limits.capacity}
 use Rattle.ledger.proofs.Queues.{Spread}
@@ -17,8 +18,14 @@ use Rattle.feeding.proofs.{Reached.reached-whole, feed.Statement.statem
 use Rattle.feeding.proofs.feed.Tie as tie
 
 -- The places that statements name.
+abbrev within-at : tie.After-spread → tie.Else1
+within-at c = c .before .before .before .before .before .before .before
+
+abbrev asked-at : tie.After-spread → tie.After-is-list-allowed
+asked-at c = within-at c .before
+
 abbrev start-at : tie.After-spread → tie.Start
-start-at c = c .before .before .before .before .before .before .before .before .before .before
+start-at c = asked-at c .before .before .before .before
 
 abbrev spread-at : tie.After-queue-in → tie.After-spread
 spread-at c = c .before .before .before
@@ -98,11 +105,32 @@ module _ (c : tie.After-feed-lines) where
       subst (λ x. Runs (s .args .holidays .now) (s .args .input .now) (s .args .out .now) x after line out (c .feed-lines .result))
       (state-is (queue-at c)) (c .feed-lines .ensures .0)
 
+-- 14
+returns : tie.Need-returns
+returns c =
+    let d : tie.After-decline-lines = search in
+    let t : tie.Then1 = d .before .before in
+    let a : tie.After-is-list-allowed = t .before in
+    let s : tie.Start = a .before .before .before .before in
+    let holidays = s .args .holidays .now in
+    let unlisted = answered-no (a .is-list-allowed .ensures) (t .if1 .taken) in
+    let none = d .decline-lines .ensures holidays unlisted in
+    let ready : Ready holidays (d .decline-lines .result .state) =
+    record { reached = rw (none .account-is) (s .pre .reached); clear = none .clear }
+    in
+    (none .fed, (none .text-is, ((none .taken-most, none .written-most), ready)))
+
 feed-lines-requires : tie.Need-feed-lines-requires
 feed-lines-requires c κs =
     let q : tie.After-queue-in = search in
     let p = spread-at q in
-    record { long = p .spread .ensures .1; lain = lain q; line-long = line-long (start-at p); clear = start-at p .pre .clear }
+    record {
+      listed = answered-yes (asked-at p .is-list-allowed .ensures) (within-at p .if1 .left);
+      long = p .spread .ensures .1;
+      lain = lain q;
+      line-long = line-long (start-at p);
+      clear = start-at p .pre .clear;
+    }
 
 gathered-requires : tie.Need-gathered-requires
 gathered-requires c κs =
@@ -110,8 +138,8 @@ gathered-requires c κs =
     let l = runs f .lain in
     (f .feed-lines .ensures .1, (lain-few l, l .lies .end-most))
 
-returns : tie.Need-returns
-returns c =
+returns-2 : tie.Need-returns-2
+returns-2 c =
     let f : tie.After-feed-lines = search in
     let g : tie.After-gathered = search in
     let w = f .feed-lines .result in
@@ -121,19 +149,27 @@ returns c =
     λ i. record { state = state (is i) (w .length) (line f); taken = w .taken; written = w .written }
     in
     let same = c .handed-back .ensures ∙ gathers in
-    let ready = subst (λ (x : Fed). Ready (s f .args .holidays .now) (x .state)) (sym same) (record { reached = run .lain .reached; clear = run .clear }) in
+    let ready =
+    subst (λ (x : Fed). Ready (s f .args .holidays .now) (x .state)) (sym same) (record { reached = run .lain .reached; clear = run .clear })
+    in
     (same ∙ run .fed, (run .text-is, (rw same (run .taken-most, run .written-most), ready)))
 
 pub feed-spec : {M : Type 1} → statement M
 feed-spec =
     tie.close
     (tie.spec
+    (λ c κs. tt)  -- is-list-allowed-requires
+    (λ c κs. search needs)  -- decline-lines-requires
+    (λ c. search needs)  -- same-length
+    returns
     (λ c κs. record { unpaid-long = refl; amount-long = refl; label-long = refl })  -- spread-requires
     (λ c κs. tt)  -- head-of-requires
-    (λ c κs. let p : tie.After-spread = search in open-bounds (account p) (reached-whole (holidays p) (account p) (reached p)))  -- queue-in-requires
+    (λ c κs.
+    let p : tie.After-spread = search in
+    open-bounds (account p) (reached-whole (holidays p) (account p) (reached p)))  -- queue-in-requires
     (λ c. let p : tie.After-spread = search in sym (line-long (start-at p)))  -- slice-aggregate-feed-lines
     feed-lines-requires
     gathered-requires
     (λ c κs. tt)  -- handed-back-requires
-    (λ c. search needs)  -- same-length
-    returns)
+    (λ c. search needs)  -- same-length-2
+    returns-2)

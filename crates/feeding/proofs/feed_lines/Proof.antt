@@ -1,7 +1,7 @@
 -- Line by line: what the whole piece makes is what was written, with what the rest makes of the account that the parts stand for
 -- (`Running`). What is planned of a line and entered comes to the line's outcome (`Comes`); so, its answer written, the run goes on
 -- (`running-on`).
-use Rattle.common.proofs.Words.{_≡_, refl, sym, subst, _∙_, Bool, true, ⊎-elim, List, ℕ, _-_, arith, length, replicate, needs, not-true}
+use Rattle.common.proofs.Words.{_≡_, refl, sym, subst, _∙_, true, ⊎-elim, List, ℕ, _-_, arith, length, replicate, needs, not-true}
 use Rattle.common.proofs.Words.{not-false}
 use Rattle.duedays.specs.DueDays.{listAllowed}
 use Rattle.meter.specs.declared.Estimates.{Estimates}
@@ -12,15 +12,15 @@ use Rattle.intake.specs.declared.Head.{Head}
 use Rattle.plan.specs.Plans.{reads}
 use Rattle.frames.specs.Numbers.{parsedBy}
 use Rattle.lines.specs.{declared.Next.Next, declared.State.State, Line.parsedOutcome, Going.state, Going.Found}
-use Rattle.feeding.specs.{declared.Went.Went, Working.accountIn, Working.Lain, Working.Planned, Working.headAfter}
+use Rattle.feeding.specs.{declared.Went.Went, Working.accountIn, Working.Lain, Working.headAfter}
 use Rattle.feeding.proofs.Entering.{lain-bounds, lain-estimates, lain-fit, estimatesAfter, Comes, comes, entered-planned, Said, said}
 use Rattle.feeding.proofs.Entering.{estimates-kept, estimates-changed, change-accepted}
 use Rattle.feeding.proofs.Running.{wentTo, Running, running-start, running-ended, running-waits, running-on}
-use Rattle.feeding.proofs.{Planning.planned-over, feed_lines.Statement.statement}
+use Rattle.feeding.proofs.{Planning.Planned, Planning.planned-over, feed_lines.Statement.statement}
 use Rattle.feeding.proofs.feed_lines.Tie as tie
 
 abbrev Inv-loop : tie.InvT-loop
-Inv-loop begun line₀ holidays input out₀ unpaid₀ amount₀ label₀ listed values pairs head₀ estimates₀ queue₀ kept₀ taken₀ written₀
+Inv-loop begun line₀ holidays input out₀ unpaid₀ amount₀ label₀ values pairs head₀ estimates₀ queue₀ kept₀ taken₀ written₀
     line out unpaid amount label head estimates queue kept taken written =
     record {
       long : Long unpaid amount label;
@@ -30,7 +30,7 @@ Inv-loop begun line₀ holidays input out₀ unpaid₀ amount₀ label₀ listed
     }
 
 abbrev μ-loop : tie.MeasureT-loop
-μ-loop begun line₀ holidays input out₀ unpaid₀ amount₀ label₀ listed values pairs head₀ estimates₀ queue₀ kept₀ taken₀ written₀
+μ-loop begun line₀ holidays input out₀ unpaid₀ amount₀ label₀ values pairs head₀ estimates₀ queue₀ kept₀ taken₀ written₀
     line out unpaid amount label head estimates queue kept taken written =
     length input - taken
 
@@ -38,7 +38,7 @@ abbrev Walk : (tie.InvT-loop → tie.MeasureT-loop → Type 0) → Type 0
 Walk T = T Inv-loop μ-loop
 
 abbrev start-at : Walk tie.At-loop → Walk tie.Start
-start-at c = c .before .before .before .before .before .before .before .before
+start-at c = c .before .before .before .before .before .before .before
 
 abbrev entered-at : Walk tie.After-put-line → Walk tie.After-enter-plan
 entered-at c = c .before .before .before .before .before
@@ -54,11 +54,8 @@ module _ (l : Walk tie.At-loop) where
   abbrev holidays : List ℕ
   holidays = start-at l .args .holidays .now
 
-  abbrev listed : Bool
-  listed = l .before .before .before .is-list-allowed .result
-
-  is-listed : listed ≡ listAllowed holidays
-  is-listed = l .before .before .before .is-list-allowed .ensures
+  listed : listAllowed holidays ≡ true
+  listed = start-at l .pre .listed
 
   lain : Lain holidays items (l .loop .queue) (l .loop .head) (l .loop .estimates)
   lain = l .loop .inv .running .lain
@@ -99,12 +96,12 @@ module _ (j : Walk tie.Joined2) where
   abbrev e : Walk tie.Else1
   e = j .before .before .before
 
-  planned : Planned (listed (l e)) (l e .loop .head) (l e .loop .estimates) (parsedBy (next e .fields)) (replicate 7 0) (j .if2 .plan) (j .if2 .volumes)
+  planned : Planned (l e .loop .head) (l e .loop .estimates) (parsedBy (next e .fields)) (replicate 7 0) (j .if2 .plan) (j .if2 .volumes)
   planned =
       let b : Walk tie.After-looks-back = j .before in
       ⊎-elim
       (λ w. planned-over (w .1 .ensures) (b .looks-back .ensures .0 (w .0 .taken)) (w .5 ∙ w .3 .ensures .0) (w .4 ∙ w .3 .ensures .1))
-      (λ w. rw (w .4, w .3) (w .2 .ensures (l e .loop .estimates) (lain (l e) .count-is)))
+      (λ w. record { is = rw (w .4, w .3) (w .2 .ensures (l e .loop .estimates) (lain (l e) .count-is)) })
       (j .if2 .came)
 
 -- It is entered.
@@ -124,10 +121,10 @@ module _ (c : Walk tie.After-enter-plan) where
   come :
       Comes after (stood .loop .head) (stood .loop .estimates) (j .if2 .plan) r (j .if2 .volumes)
       (parsedOutcome (holidays stood) (account stood) (parsedBy (next (e j) .fields)))
-  come = comes (holidays stood) after r (j .if2 .volumes) (lain stood) (is-listed stood) (c .enter-plan .ensures .0) (planned j)
+  come = comes (holidays stood) after r (j .if2 .volumes) (lain stood) (listed stood) (c .enter-plan .ensures .0) (planned j)
 
   says : r .number ≡ 0 → Said (holidays stood) (stood .loop .head) (j .if2 .plan) (j .if2 .volumes)
-  says z = said (is-listed stood) (lain stood) (planned j) (entered-planned (c .enter-plan .ensures .0) z)
+  says z = said (listed stood) (lain stood) (planned j) (entered-planned (c .enter-plan .ensures .0) z)
 
 -- Its answer is written. `estimates` are those behind the line.
 module _ (p : Walk tie.After-put-line) where
@@ -190,8 +187,10 @@ plan-line-requires c κs =
 enter-plan-requires : Walk tie.Need-enter-plan-requires
 enter-plan-requires c κs =
     let j : Walk tie.Joined2 = search in
-    let l = l (e j) in
-    (record { long = l .loop .inv .long; fit = lain-fit (lain l); room = lain l .room }, λ z. said (is-listed l) (lain l) (planned j) z .enterable)
+    let l = l (e j) in (
+      record { long = l .loop .inv .long; fit = lain-fit (lain l); room = lain l .room },
+      λ z. said (listed l) (lain l) (planned j) z .enterable,
+    )
 
 put-line-requires : Walk tie.Need-put-line-requires
 put-line-requires c κs =
@@ -233,7 +232,6 @@ feed-lines-spec =
     (tie.spec
     Inv-loop
     μ-loop
-    (λ c κs. tt)  -- is-list-allowed-requires
     (λ c κs. tt)  -- value-table-requires
     (λ c κs. tt)  -- pair-table-requires
     (λ c.

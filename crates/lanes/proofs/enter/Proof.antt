@@ -1,19 +1,19 @@
 -- Money covers items and the numbers are settled; an entry that they refuse touches nothing. Else four stores: less is unpaid
 -- of the oldest item that stays, and each posting goes behind the last (`paid-lie` .. `arisen-lie`, by what `post_item` ensures).
 -- What then lies there is what the numbers say, and by `after-stands` and `after-lies` that is what the definition says.
-use Rattle.common.proofs.Words.{_≡_, sym, ap, _∙_, List, _++_, _+_, _-_, _≤_, _<_, arith, length, getD, set, length-set, needs}
+use Rattle.common.proofs.Words.{_≡_, sym, ap, _∙_, List, _++_, ℕ, _+_, _-_, _≤_, _<_, arith, length, getD, set, length-set, needs}
 use Rattle.ledger.specs.Numbers.{places, lessPaid, lying, Lies}
 use Rattle.ledger.specs.{Limits.capacity, Limits.lanePlaces, Limits.mostEnd, declared.Item.Item, Entries.next}
 use Rattle.ledger.proofs.Places.{part, part-oldest, part-later, places-most}
-use Rattle.ledger.proofs.Queues.{Entering, Settling, stood, covered-within, settle-bounds, part-count, oldest, staying, stayed, held-item}
-use Rattle.ledger.proofs.Queues.{charge-item, arisen-item, After, number-of, oldest-within, end-is, after-stands, after-lies, few-after}
+use Rattle.ledger.proofs.Queues.{Entering, Settling, stood, covered-within, settle-bounds, part-count, oldest, staying, stayed, due}
+use Rattle.ledger.proofs.Queues.{held-item, charge-item, arisen-item, After, number-of, oldest-within, end-is, after-stands, after-lies, few-after}
 use Rattle.ledger.proofs.Queues.{interest-is, interest-fits, next-asked, next-same, front-same, front-lies}
 use Rattle.lanes.specs.Lanes.{rows}
 use Rattle.lanes.proofs.Rows.{rows-in, rows-long, row-reduced, row-unpaid}
 use Rattle.lanes.proofs.enter.Statement.{statement}
 use Rattle.lanes.proofs.enter.Tie as tie
 
--- Places: the entry is begun, its money has covered items, it is settled, and each posting is stored.
+-- Places: the entry is begun, its money has covered items, it is settled, its due day is worked out, and each posting is stored.
 abbrev begun : tie.After-cover → tie.Start
 begun c = c .before .before .before .before .before .before .before
 
@@ -38,8 +38,11 @@ entering c =
 abbrev settling : tie.After-settle-numbers → Settling
 settling c = record { entering = entering (c .before); settled = c .settle-numbers .result; settles = c .settle-numbers .ensures }
 
+abbrev dated : tie.After-post-item → tie.After-due-day
+dated c = c .before .before .before .before
+
 abbrev numbers : tie.After-post-item → tie.After-settle-numbers
-numbers c = c .before .before .before .before .before .before .before .before .before
+numbers c = dated c .before .before .before .before .before .before
 
 abbrev first : tie.After-post-item2 → tie.After-post-item
 first c = c .before .before .before .before
@@ -49,6 +52,9 @@ second c = c .before .before .before .before
 
 abbrev work : tie.After-post-item → Settling
 work c = settling (numbers c)
+
+due-is : (c : tie.After-post-item) → dated c .due-day .result ≡ due (work c)
+due-is c = dated c .due-day .ensures
 
 inside : (k : Entering) → k .queue .front + k .cover .covered < lanePlaces
 inside k = omega (arith, covered-within k, k .room)
@@ -83,25 +89,30 @@ owes-it d =
     let k = settling d in
     rw (row-unpaid (begun (d .before) .pre .0 .long) (oldest k) (inside (k .entering))) at (oldest-within k)
 
+posted-behind : {lie stood known : List Item} {day counted : ℕ} (items : ℕ → List Item)
+    → lie ≡ stood ++ items day → stood ≡ known → day ≡ counted → lie ≡ known ++ items counted
+posted-behind items lies known counted = lies ∙ (λ i. known i ++ items (counted i))
+
 held-lie : (c : tie.After-post-item) →
     let k = work c in
-    part (oldest k) (staying k + places (k .settled .heldleft)) (rows-in (c .post-item .last)) ≡ stayed k ++ held-item k
+    part (oldest k) (staying k + places (k .settled .heldleft)) (rows-in (c .post-item .last)) ≡ stayed k ++ held-item k (due k)
 held-lie c =
     let k = work c in
     let q = k .entering .queue in
     let behind : oldest k + staying k ≡ q .front + q .count = omega (arith, covered-within (k .entering)) in
-    c .post-item .ensures .1 .0 (oldest k) (staying k) behind ∙ ap (_++ held-item k) (paid-lie (numbers c))
+    posted-behind (held-item k) (c .post-item .ensures .1 .0 (oldest k) (staying k) behind) (paid-lie (numbers c)) (due-is c)
 
 charge-lie : (c : tie.After-post-item2) →
     let k = work (first c) in
     let count = staying k + places (k .settled .heldleft) in
-    part (oldest k) (count + places (k .settled .chargeleft)) (rows-in (c .post-item2 .last)) ≡ (stayed k ++ held-item k) ++ charge-item k
+    part (oldest k) (count + places (k .settled .chargeleft)) (rows-in (c .post-item2 .last)) ≡
+    (stayed k ++ held-item k (due k)) ++ charge-item k (due k)
 charge-lie c =
     let k = work (first c) in
     let count = staying k + places (k .settled .heldleft) in
     let behind : oldest k + count ≡ first c .post-item .result =
     omega (arith, covered-within (k .entering), first c .post-item .ensures .0) in
-    c .post-item2 .ensures .1 .0 (oldest k) count behind ∙ ap (_++ charge-item k) (held-lie (first c))
+    posted-behind (charge-item k) (c .post-item2 .ensures .1 .0 (oldest k) count behind) (held-lie (first c)) (due-is (first c))
 
 -- All is stored.
 module _ (c : tie.After-post-item3) where
@@ -122,14 +133,16 @@ module _ (c : tie.After-post-item3) where
       let count = staying k + places (k .settled .heldleft) + places (k .settled .chargeleft) in
       let behind : oldest k + count ≡ second c .post-item2 .result =
       omega (arith, covered-within (k .entering), first (second c) .post-item .ensures .0, second c .post-item2 .ensures .0) in
-      c .post-item3 .ensures .1 .0 (oldest k) count behind ∙ ap (_++ arisen-item k) (charge-lie (second c))
+      posted-behind (arisen-item k) (c .post-item3 .ensures .1 .0 (oldest k) count behind) (charge-lie (second c))
+      (due-is (first (second c)))
 
   put-lies : Lies put (k .settled .queue)
   put-lies = after-lies k put (rows-long (c .post-item3 .ensures .1 .1)) arisen-lie
 
   put-stands : lying put (k .settled .queue) ≡ next (k .entering .holidays) (k .entering .entry) (stood (k .entering))
   put-stands =
-      after-stands k put arisen-lie ∙ sym (next-asked (k .entering .holidays) (k .entering .entry) (stood (k .entering)) (sym (number-of k) ∙ none))
+      after-stands k put arisen-lie ∙
+      sym (next-asked (k .entering .holidays) (k .entering .entry) (stood (k .entering)) (sym (number-of k) ∙ none))
 
 few-before : (s : tie.Start) → s .args .queue .count ≤ capacity
 few-before s = let fit = s .pre .0 .fit in omega (arith, part-count (fit .lies), fit .within .count-most)
@@ -154,7 +167,8 @@ returns c =
     let number = number-of (settling d) in (
       record {
         number-is = number;
-        stands = sym (next-same (s .args .holidays .now) (s .args .entry) (lying (lain s) (s .args .queue)) (λ z. c .if1 .taken (number ∙ z)));
+        stands =
+            sym (next-same (s .args .holidays .now) (s .args .entry) (lying (lain s) (s .args .queue)) (λ z. c .if1 .taken (number ∙ z)));
         lies = s .pre .0 .fit .lies;
         interest-is = λ z. absurd (c .if1 .taken z);
         few = few-before s;
@@ -169,20 +183,18 @@ post-item-requires c κs =
     let s = begun (d .before) in
     let long = s .pre .0 .long in (
       record { unpaid-long = simp length-set (long .unpaid-long); amount-long = long .amount-long; label-long = long .label-long },
-      (omega (arith, s .pre .0 .room), (s .pre .1 .bounds .day-most, s .pre .1 .listed)),
+      omega (arith, s .pre .0 .room),
     )
 
 post-item-requires-2 : tie.Need-post-item-requires-2
 post-item-requires-2 c κs =
     let p : tie.After-post-item = search in
-    let s = begun (numbers p .before) in
-    (p .post-item .ensures .1 .1, (omega (arith, held-most p), (s .pre .1 .bounds .day-most, s .pre .1 .listed)))
+    (p .post-item .ensures .1 .1, omega (arith, held-most p))
 
 post-item-requires-3 : tie.Need-post-item-requires-3
 post-item-requires-3 c κs =
     let p : tie.After-post-item2 = search in
-    let s = begun (numbers (first p) .before) in
-    (p .post-item2 .ensures .1 .1, (omega (arith, charge-most p), (s .pre .1 .bounds .day-most, s .pre .1 .listed)))
+    (p .post-item2 .ensures .1 .1, omega (arith, charge-most p))
 
 returns-2 : tie.Need-returns-2
 returns-2 c =
@@ -232,6 +244,7 @@ enter-spec =
     (λ c. let k : tie.After-cover = search in inside (entering k))  -- element-copy-out-unpaid
     (λ c. let d : tie.After-settle-numbers = search in owes-it d)  -- sub-unpaid
     (λ c. let k : tie.After-cover = search in inside (entering k))  -- element-write-unpaid
+    (λ c κs. let s : tie.Start = search in (s .pre .1 .listed, s .pre .1 .bounds .day-most))  -- due-day-requires
     (λ c. let s : tie.Start = search in record { fits = omega (arith, s .pre .0 .room) })  -- add-first
     post-item-requires
     post-item-requires-2

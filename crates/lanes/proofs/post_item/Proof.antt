@@ -15,7 +15,7 @@ returns c =
     let a = s .args in
     let none = c .if1 .taken in (
       sym (ap (λ n. a .at + n) (places-none (a .left) none) ∙ add-zero (a .at)),
-      ((λ front count e. part-none (a .holidays .now) (a .kind) (a .day) (a .sum) (a .left) front count (lain s) none), s .pre .0),
+      ((λ front count e. part-none (a .due) (a .kind) (a .day) (a .sum) (a .left) front count (lain s) none), s .pre .0),
     )
 
 returns-2 : tie.Need-returns-2
@@ -24,12 +24,12 @@ returns-2 c =
     let some : tie.Else1 = search in
     let made : tie.After-made-item = search in
     let a = s .args in
-    let inside : a .at < length (lain s) = rw (rows-long (s .pre .0)) (s .pre .1 .0) in (
+    let inside : a .at < length (lain s) = rw (rows-long (s .pre .0)) (s .pre .1) in (
       sym (ap (λ n. a .at + n) (places-some (a .left) (some .if1 .left))),
       (
         (λ front count e.
             ap (part front (count + places (a .left))) (c .put .ensures .0 ∙ ap (set (lain s) (a .at)) (made .made-item .ensures)) ∙
-            part-behind (a .holidays .now) (a .kind) (a .day) (a .sum) (a .left) front count (a .at) (lain s) e inside),
+            part-behind (a .due) (a .kind) (a .day) (a .sum) (a .left) front count (a .at) (lain s) e inside),
         c .put .ensures .1,
       ),
     )

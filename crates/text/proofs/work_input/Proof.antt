@@ -104,7 +104,9 @@ module _ (c : FedAt) where
   taken-more : 1 ≤ c .feed .result .taken
   taken-more =
       let t : Walk tie.In-loop = search in
-      let some = taken-some (holidays l) (room l) (l .loop .state) (ahead l) (enough l) (omega (arith, ahead-long l, t .loop-test .taken)) in
+      let some =
+      taken-some (holidays l) (room l) (l .loop .state) (ahead l) (enough l) (omega (arith, ahead-long l, t .loop-test .taken))
+      in
       rw (ap (λ (f : Fed). f .taken) (made .result-is)) some
 
   size-most : l .loop .size + c .feed .result .written ≤ 4096 * (l .loop .taken + c .feed .result .taken)

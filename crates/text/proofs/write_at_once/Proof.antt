@@ -73,7 +73,8 @@ module _ (c : tie.After-finish) where
   fits = omega (arith, filled (at c), made .most, all (at c) .left)
 
   worked : {end : List ℕ} → end ≡ written (out (at c)) (0 + length (fed (at c) .output)) (last .output)
-      → Worked (holidays (at c)) (input (at c)) (text (at c)) true end (last .state .account) (0 + length (fed (at c) .output) + length (last .output))
+      → Worked (holidays (at c)) (input (at c)) (text (at c)) true end (last .state .account)
+      (0 + length (fed (at c) .output) + length (last .output))
   worked e =
       let w = working-on (working-start (holidays (at c)) (input (at c)) (text (at c)) true) (length (text (at c))) (out-is (at c)) in
       working-end w longestAnswer (omega arith) (omega (arith, all (at c) .taken-all)) e

@@ -58,8 +58,13 @@ returns-3 c =
     let fits : tie.Then3 = search in
     let w : tie.After-work-input2 = search in
     let room : length (bill (holidays s) (input s)) ≤ length (out s) = omega (arith, size-is m, same m, fits .if3 .taken) in
-    rw (le-leb (length (input s)) longestInput (short .if1 .left), le-leb (length (bill (holidays s) (input s))) (length (out s)) room)
-    (size-is m, (w .work-input2 .ensures .1 ∙ ap (λ t. written t 0 (bill (holidays s) (input s))) (m .work-input .ensures .1), sums (holidays s) (linesOf (input s))))
+    rw (le-leb (length (input s)) longestInput (short .if1 .left), le-leb (length (bill (holidays s) (input s))) (length (out s)) room) (
+      size-is m,
+      (
+        w .work-input2 .ensures .1 ∙ ap (λ t. written t 0 (bill (holidays s) (input s))) (m .work-input .ensures .1),
+        sums (holidays s) (linesOf (input s)),
+      ),
+    )
 
 returns-4 : tie.Need-returns-4
 returns-4 c =

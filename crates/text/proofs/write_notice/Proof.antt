@@ -11,7 +11,8 @@ input s = s .args .input .now
 abbrev start : tie.After-work-input → tie.Start
 start c = c .before .before .before .before .before .before
 
-notice-is : (c : tie.After-work-input) → openNotices (c .work-input .result .account) ≡ notice (start c .args .holidays .now) (input (start c))
+notice-is : (c : tie.After-work-input)
+    → openNotices (c .work-input .result .account) ≡ notice (start c .args .holidays .now) (input (start c))
 unfolding notice
 notice-is c = ap (λ (r : Billed). openNotices (r .account)) (c .work-input .ensures .0)
 

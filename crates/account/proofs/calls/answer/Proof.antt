@@ -70,7 +70,8 @@ plan-with-requires : tie.Need-plan-with-requires
 plan-with-requires c κs =
     let s : tie.Start = search in
     let k : tie.After-head-of = search in
-    rw (k .head-of .ensures) (record { bounds = head-bounds (a s) (s .pre .0); fit = estimates-fit (a s) (s .pre .0) (long s); long = refl })
+    rw (k .head-of .ensures)
+    (record { bounds = head-bounds (a s) (s .pre .0); fit = estimates-fit (a s) (s .pre .0) (long s); long = refl })
 
 returns : tie.Need-returns
 returns c =

@@ -45,7 +45,8 @@ returns-3 c = λ final same.
     let next = next-asked holidays entry before z in
     let ledger : n .enter-ledger .result .ledger ≡ stored after = posted .ledger-is ∙ ap stored next in
     let unpaid : n .enter-ledger .result .unpaid ≡ unpaidOf (standing (stored after) .open-items) =
-    posted .unpaid-is ∙ ap (λ (x : Standing). unpaidOf (x .open-items)) (next ∙ sym (standing-stored after (places-few holidays entry before z)))
+    posted .unpaid-is ∙
+    ap (λ (x : Standing). unpaidOf (x .open-items)) (next ∙ sym (standing-stored after (places-few holidays entry before z)))
     in
     let made = c .before .account-of2 .ensures in
     rw (asks, z, made, changed, c .answer-of2 .ensures, ledger, unpaid, posted .interest-is (m .if2 .left), same)
