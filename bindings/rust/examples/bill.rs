@@ -15,10 +15,7 @@ fn main() -> io::Result<()> {
 }
 
 fn closed_days() -> io::Result<Vec<u16>> {
-    env::args()
-        .skip(2)
-        .map(|word| word.parse().map_err(|_| io::Error::other("no day")))
-        .collect()
+    env::args().skip(2).map(|word| word.parse().map_err(|_| io::Error::other("no day"))).collect()
 }
 
 fn input() -> io::Result<Vec<u8>> {

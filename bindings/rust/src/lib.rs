@@ -31,8 +31,7 @@ extern "C" {
 /// The longest answer of a line, its LF among it.
 const LONGEST_ANSWER: usize = 117;
 
-type Function =
-    unsafe extern "C" fn(*const u8, usize, *const u16, usize, *mut u8, usize) -> usize;
+type Function = unsafe extern "C" fn(*const u8, usize, *const u16, usize, *mut u8, usize) -> usize;
 
 /// The output buffer is too small. Nothing was written to it.
 #[derive(Clone, Copy, Debug, PartialEq, Eq)]
@@ -94,11 +93,7 @@ pub fn bill_into(input: &[u8], output: &mut [u8]) -> Result<usize, TooSmall> {
 }
 
 /// Writes `bill_with`'s output to the front of a buffer and gives its size.
-pub fn bill_into_with(
-    input: &[u8],
-    closed: &[u16],
-    output: &mut [u8],
-) -> Result<usize, TooSmall> {
+pub fn bill_into_with(input: &[u8], closed: &[u16], output: &mut [u8]) -> Result<usize, TooSmall> {
     into(breccianest_bill_closed, input, closed, output)
 }
 
