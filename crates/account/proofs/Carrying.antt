@@ -4,7 +4,7 @@ use Rattle.duedays.specs.DueDays.{list_allowed}
 use Rattle.meter.specs.declared.Estimates.{Estimates}
 use Rattle.ledger.specs.Entries.{asked, number_of, interest_posted, Within}
 use Rattle.ledger.specs.{declared.Entry.Entry, declared.Item.Item, declared.Ledger.Ledger, declared.Queue.Queue}
-use Rattle.ledger.specs.{Limits.capacity, Limits.most_credit, Settling.unpaid_of, Posting.Standing, Posting.standing, Posting.stored}
+use Rattle.ledger.specs.{Limits.capacity, Limits.most_credit, Settling.unpaid_of, Posting.Standing, Posting.stored}
 use Rattle.ledger.specs.Numbers.{lying, Lies}
 use Rattle.ledger.proofs.{Bounds.standing_stored, Within.number_passes, Queues.part_count}
 use Rattle.intake.specs.{declared.Head.Head, declared.Call.Call, Refusals.first_refusal, Heads.EstimatesFit}
@@ -67,7 +67,9 @@ module _ (holidays : List ℕ) (h : Head) (estimates : Estimates) (s : Standing)
         → outcome holidays a call ≡ accepted (made x interest) → lying after q ≡ x → Lies after q → q.count ≤ capacity
         → Goes after q interest volumes
     goes volumes shown after q x interest e same lies most =
-        let said : outcome holidays a call ≡ accepted (made (lying after q) interest) = e ∙ ap (λ y. accepted (made y interest)) (sym same) in
+        let said : outcome holidays a call ≡ accepted (made (lying after q) interest) =
+        e ∙ ap (λ y. accepted (made y interest)) (sym same)
+        in
         let few : length (lying after q).open_items ≤ capacity = omega (arith, part_count lies) in
         let owed = lies.owed_is ∙ sym (ap (λ (y : Standing). unpaid_of y.open_items) (standing_stored (lying after q) few)) in
         record {
@@ -83,7 +85,8 @@ module _ (holidays : List ℕ) (h : Head) (estimates : Estimates) (s : Standing)
 
       concludes : outcome holidays a call ≡ concluded a (work_of holidays p final estimates (stored s))
       concludes =
-          outcome_concluded holidays a call listed w (rw head_is first) ∙ ap (concluded a) (rw head_is at (sym (plan_works holidays a call)))
+          outcome_concluded holidays a call listed w (rw head_is first) ∙
+          ap (concluded a) (rw head_is at (sym (plan_works holidays a call)))
 
       pub outcome_quiet : p.asks ≡ false → outcome holidays a call ≡ accepted (made s 0)
       outcome_quiet f = rw (concludes, f, last_none (stored s) within.count_most within.credit_most)

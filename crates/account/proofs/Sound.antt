@@ -6,7 +6,8 @@ use Rattle.lists.proofs.Every.{every_append, every_map}
 use Rattle.duedays.specs.DueDays.{list_allowed}
 use Rattle.duedays.proofs.DueDays.{due_most}
 use Rattle.ledger.specs.Limits.{last_call_day, capacity, most_price, most_interest, most_arisen, most_credit}
-use Rattle.ledger.specs.Posting.{Standing, new_item, entered, post, none_held, closed, paid, held_posted, charge_of, credit_of, standing, stored}
+use Rattle.ledger.specs.Posting.{Standing, new_item, entered, post, none_held, closed, paid, held_posted}
+use Rattle.ledger.specs.Posting.{charge_of, credit_of, standing, stored}
 use Rattle.ledger.specs.{declared.Kind.Kind, declared.Kind.TheVariants.Interest, declared.Kind.TheVariants.Price, declared.Item.Item}
 use Rattle.ledger.specs.{Interest.is_price, Interest.interest_on, Settling.reduced}
 use Rattle.ledger.proofs.{Interest.interest_most, Settling.settle_keeps, Settling.arisen_most, Settling.left_or_none}
@@ -92,8 +93,10 @@ module _ (holidays : List ℕ) (day : ℕ) (s : Standing) (listed : list_allowed
       let priced = entered holidays Price day (charge_of net) in
       let price-facts = entered_facts holidays Price day (charge_of net) listed h (λ _. charge) (omega arith) in
       let new = every_append (ItemFacts day) posted priced held_facts price-facts in
+      let few = entered_count holidays Interest day s.held in
+      let few-priced = entered_count holidays Price day (charge_of net) in
       post_bounded day (credit_of net) (posted ++ priced) (none_held s) old new h
-      (omega (arith, length-append posted priced, entered_count holidays Interest day s.held, entered_count holidays Price day (charge_of net)))
+      (omega (arith, length-append posted priced, few, few-priced))
 
   pub posted_sound : Sound day (held_posted holidays day s)
   unfolding held_posted

@@ -33,7 +33,8 @@ module _ (holidays : List ℕ) (a : Account) where
       rw (held_asked_lem holidays day s, closed_with_none holidays day s, add-zero a.ledger.held)
 
   pub plan_works : (call : Call)
-      → work_by (passed_plan (head_of a) (standing_estimates a) call) (passed_volumes (head_of a) (standing_estimates a) call) ≡ work holidays a call
+      → work_by (passed_plan (head_of a) (standing_estimates a) call) (passed_volumes (head_of a) (standing_estimates a) call)
+      ≡ work holidays a call
   unfolding work passed_plan passed_volumes asked taken closed
   plan_works (Opening _ _ _) = refl
   plan_works (Reading _ _ _) = rw (add-zero a.ledger.held)

@@ -9,7 +9,8 @@ use Rattle.intake.specs.declared.Status.TheVariants.{New, Supplied, Stopped, Can
 use Rattle.intake.specs.declared.Call.TheVariants.{Opening, Reading, Missed, Absent, Exchange, Disconnection, Reconnection, Cancellation}
 use Rattle.intake.specs.declared.Call.TheVariants.{Payment, StoppedCancellation}
 use Rattle.intake.specs.{declared.Status.Status, declared.Head.Head, declared.Call.Call, Heads.head_on}
-use Rattle.intake.specs.{Statuses.is_cancelled, Statuses.start_of, Statuses.stop_of, Periods.days_of, Periods.day_after, Periods.resumed_start}
+use Rattle.intake.specs.{Statuses.is_cancelled, Statuses.start_of, Statuses.stop_of}
+use Rattle.intake.specs.{Periods.days_of, Periods.day_after, Periods.resumed_start}
 use Rattle.closing.specs.Closing.{of_this_period, net_of, stored_estimates}
 use Rattle.account.specs.declared.Account.{Account}
 use Rattle.meter.specs.Sharing as Sharing

@@ -1,4 +1,7 @@
-// A gas account: its status, what it holds, the calls made on it and their answers. With each call comes the list of closed days, in names holidays.
+// A gas account: its status, what it holds, the calls made on it and their answers. With each call comes the list of closed days,
+// in names holidays.
+#![tactic(auto)]
+
 ghost use Rattle.std.specs.Prelude.{◌≡◌};
 ghost use Rattle.intake.specs.declared.Call.TheVariants.{Opening, Reading, Missed, Absent, Exchange, Disconnection};
 ghost use Rattle.intake.specs.declared.Call.TheVariants.{Reconnection, Cancellation, Payment, StoppedCancellation};
@@ -16,7 +19,7 @@ use ledger::Ledger;
 use meter::{Estimates, Meter, Volumes};
 use tariff::Fuel;
 
-#[derive(Drop)]
+#[derive(Clone, Copy)]
 pub struct Account {
     pub status: Status,
     // Day of the latest accepted call.
@@ -27,7 +30,7 @@ pub struct Account {
 }
 
 // `number` is 0 where the call was accepted; where it was declined it says why, and every other field is 0.
-#[derive(Drop)]
+#[derive(Clone, Copy)]
 pub struct Answer {
     pub number: u8,
     pub estimated: u32,
@@ -38,7 +41,7 @@ pub struct Answer {
     pub credit: u64,
 }
 
-#[derive(Drop)]
+#[derive(Clone, Copy)]
 pub struct Outcome {
     pub account: Account,
     pub answer: Answer,

@@ -1,4 +1,5 @@
-// Number 41: whether an account handed in is whole. One walk over the open items and the standing estimates, and of a new account over all places.
+// Number 41: whether an account handed in is whole. One walk over the open items and the standing estimates, and of a new account
+// over all places.
 ghost use Rattle.std.specs.Prelude.{◌≡◌, cond, ◌≤◌};
 ghost use Rattle.lists.specs.Every.{every, same};
 ghost use Rattle.meter.specs.Sharing.{AtMostSix};

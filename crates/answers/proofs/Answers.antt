@@ -37,4 +37,5 @@ accepted_line estimated count volumes net interest unpaid credit long few =
     let final = take count volumes in
     let count_is : count ≡ length final = sym (length-take-le count volumes (omega arith)) in
     let shown-is : final ≡ take (length final) (pad 7 0 final) = sym (take_pad 0 7 final) in
-    (λ i. (head_bytes 0 estimated (count_is i) ++ volumes_bytes (shown-is i) ++ amounts_bytes net interest unpaid credit) ++ (line_feed ∷ []))
+    let amounts = amounts_bytes net interest unpaid credit in
+    (λ i. (head_bytes 0 estimated (count_is i) ++ volumes_bytes (shown-is i) ++ amounts) ++ (line_feed ∷ []))

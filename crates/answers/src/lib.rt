@@ -1,4 +1,6 @@
 // Lines that go out: an answer to its frame, an open item to its notice.
+#![tactic(auto)]
+
 ghost use Rattle.std.specs.Prelude.{◌≡◌, ◌+◌, ◌≤◌, length, take, replicate};
 ghost use Rattle.frames.specs.Digits.{glyph, PairTable, digits, bytes, written};
 ghost use Rattle.calendar.specs.Conversions.{to_date};

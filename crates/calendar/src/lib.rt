@@ -1,4 +1,6 @@
 // The day type: days as numbers, 0 being 1 January 2000, and their Gregorian dates.
+#![tactic(auto)]
+
 ghost use Rattle.std.specs.Prelude.{◌≡◌, ◌+◌, ◌≤◌, ◌<◌};
 ghost use Rattle.calendar.specs.Gregorian.{leap_year, year_length, month_length, date_at, days_before_year, days_before_month};
 ghost use Rattle.common.specs.Range.{within};
@@ -8,27 +10,27 @@ mod limits;
 
 use crate::limits::{FIRST_NUMBER, LAST_NUMBER};
 
-#[derive(Drop)]
+#[derive(Clone, Copy)]
 pub struct Date {
     pub year: u32,
     pub month: u32,
     pub day: u32,
 }
 
-#[derive(Drop)]
+#[derive(Clone, Copy)]
 pub struct Day {
     pub number: u32,
 }
 
 // What a number converts to.
-#[derive(Drop)]
+#[derive(Clone, Copy)]
 pub enum FoundDate {
     Date(Date),
     None,
 }
 
 // What a date converts to.
-#[derive(Drop)]
+#[derive(Clone, Copy)]
 pub enum FoundDay {
     Day(Day),
     None,

@@ -1,14 +1,14 @@
 -- Laws of the file `closed`. Assumes nothing.
-use Rattle.common.proofs.Words.{◌≡◌, refl, sym, ap, ◌∙◌, Bool, true, false, cond, ◌&&◌, and-false, false≢true, List, [], ◌∷◌, ◌++◌}
-use Rattle.common.proofs.Words.{append-nil, map, map-append, ℕ, zero, suc, ◌+◌, ◌*◌, ◌≤◌, ◌<◌, zero-add, arith, eqb, leb, length, get_or, set}
-use Rattle.common.proofs.Words.{take, drop, length-drop, drop-drop, length-append, length-map}
-use Rattle.common.proofs.Words.{length-take, length-take-le, append_snoc, take_all, drop-cons, drop_of_length-le, eqb-true, eq-eqb, ne_eqb, lt-leb}
+use Rattle.common.proofs.Words.{◌≡◌, refl, sym, ap, ◌∙◌, true, false, false≢true, List, [], ◌∷◌, ◌++◌}
+use Rattle.common.proofs.Words.{append-nil, map, map-append, ℕ, suc, ◌+◌, ◌*◌, ◌≤◌, ◌<◌, arith, eqb, length, get_or}
+use Rattle.common.proofs.Words.{set, take, drop, length-drop, drop-drop, length-append, length-map, length-take}
+use Rattle.common.proofs.Words.{length-take-le, append_snoc, take_all, drop-cons, drop_of_length-le, eqb-true, eq-eqb, ne_eqb}
 use lib.ListN.{take-append-drop}
 use Rattle.lists.specs.{Sum.total, Every.every, Pad.pad}
 use Rattle.lists.proofs.{Every.every_behind, Every.every_fails, Pad.length_pad, Pad.pad_store, Pad.take_pad}
 use Rattle.common.proofs.{Cases.by_test, Cases.by_order, Tests.and_left, Tests.and_right}
 use Rattle.duedays.specs.{Limits.most_listed, DueDays.list_allowed}
-use Rattle.duedays.proofs.Lists.{Allowed, allowed}
+use Rattle.duedays.proofs.Lists.{allowed}
 use Rattle.frames.specs.Digits.{is_digit, line_feed, number_of}
 use Rattle.frames.proofs.Digits.{digits_read, read_below}
 use Rattle.text.specs.Lines.{lines_from, lines_of}
@@ -22,7 +22,8 @@ unfolding is_digit
 digit_no_end c e = ne_eqb c line_feed (λ l. absurd (false≢true (rw l at e)))
 
 -- Digits go to the line that they stand in.
-digits_kept : (part digits rest : List ℕ) → every is_digit digits ≡ true → lines_from part (digits ++ rest) ≡ lines_from (part ++ digits) rest
+digits_kept : (part digits rest : List ℕ) → every is_digit digits ≡ true
+    → lines_from part (digits ++ rest) ≡ lines_from (part ++ digits) rest
 unfolding lines_from
 digits_kept part [] rest e = rw (append-nil part)
 digits_kept part (c ∷ cs) rest e =
@@ -148,7 +149,8 @@ pub first_bytes : (file : List ℕ) → list_in (take (longest_file + 1) file) �
 first_bytes file =
     by_order longest_file (length file)
     (λ long.
-    too_long (take (longest_file + 1) file) (rw (length-take-le (longest_file + 1) file (omega arith)) (omega arith)) ∙ sym (too_long file long))
+    too_long (take (longest_file + 1) file) (rw (length-take-le (longest_file + 1) file (omega arith)) (omega arith))
+    ∙ sym (too_long file long))
     (λ short. rw (take_all (longest_file + 1) file (omega arith)))
 
 -- Four digits make a number of 16 bits.

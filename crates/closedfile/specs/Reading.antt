@@ -1,6 +1,6 @@
 -- A file `closed` read line by line.
 use mathlib.Core.{Path.◌≡◌, Bool.true, Bool.false, List.List, List.◌∷◌}
-use Rattle.std.specs.Prelude.{ℕ, ◌+◌, ◌≤◌, ◌<◌, take, drop}
+use Rattle.std.specs.Prelude.{ℕ, ◌≤◌, ◌<◌, take, drop}
 use Rattle.lists.specs.Every.{every}
 use Rattle.frames.specs.Digits.{no_digit, number_of}
 use Rattle.text.specs.Lines.{lines_of}

@@ -1,4 +1,6 @@
 // The file `closed`, from its bytes to the list of closed days: specs/ClosedFile.
+#![tactic(auto)]
+
 ghost use Rattle.std.specs.Prelude.{◌≡◌, ◌<◌, length, get_or};
 ghost use Rattle.frames.specs.Digits.{line_feed, ValueTable};
 ghost use Rattle.closedfile.specs.ClosedFile.{broken_list, list_in, held};
@@ -8,7 +10,7 @@ use duedays::is_list_allowed;
 use duedays::limits::{LAST_DUE_DAY, MOST_LISTED};
 
 // The closed days from the front, and how many they are.
-#[derive(Drop)]
+#[derive(Clone, Copy)]
 pub struct ClosedDays {
     pub count: usize,
     pub days: [u16; MOST_LISTED],

@@ -1,9 +1,9 @@
 -- Laws of the due day, for every list of closed days, whether it keeps to its bounds or not. Assumes nothing.
-use Rattle.common.proofs.Words.{◌≡◌, refl, ◌⊎◌, inl, inr, ⊎_elim, Bool, true, false, true≢false, cond, List, [], ◌∷◌, ℕ, zero, suc, ◌+◌, ◌≤◌, ◌<◌}
+use Rattle.common.proofs.Words.{◌≡◌, refl, ◌⊎◌, inl, inr, ⊎_elim, true, false, true≢false, cond, List, [], ◌∷◌, ℕ, zero, suc, ◌+◌, ◌≤◌, ◌<◌}
 use Rattle.common.proofs.Words.{sym, ◌∙◌, arith, length, eqb, eqb-true, ne_eqb}
 use Rattle.lists.specs.Sum.{total}
 use Rattle.common.proofs.Cases.{by_test, by_order}
-use Rattle.duedays.specs.Limits.{most_listed, last_due_day, term, last_call_day}
+use Rattle.duedays.specs.Limits.{last_due_day, term, last_call_day}
 use Rattle.duedays.specs.DueDays.{listed, list_allowed, first_open, due_day}
 use Rattle.duedays.proofs.Lists.{allowed}
 

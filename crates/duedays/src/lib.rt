@@ -1,4 +1,6 @@
 // Closed days, in names holidays, and the due days that banks can keep: request a of document 02.
+#![tactic(auto)]
+
 ghost use Rattle.std.specs.Prelude.{◌≡◌, true, ◌≤◌, leb};
 ghost use Rattle.lists.specs.Every.{every};
 ghost use Rattle.duedays.specs.Limits.{last_call_day, last_due_day};
@@ -10,6 +12,7 @@ pub mod limits;
 use crate::limits::{LAST_DUE_DAY, MOST_LISTED, TERM};
 
 // 14: whether a list is within its bounds.
+#[tactic(auto, unfolding(crate::specs::DueDays::list_allowed))]
 pub fn is_list_allowed(holidays: &[u16]) -> bool
     ensures { result ≡ list_allowed holidays.now }
 {

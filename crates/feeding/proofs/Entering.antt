@@ -31,7 +31,8 @@ use Rattle.feeding.proofs.Planning.{Planned, number_is, passes, answer_refused, 
 use Rattle.feeding.proofs.Reached.{reached_whole, reached_tidy, reached_estimates}
 
 -- What is known of the parts of a reached account.
-module _ {holidays : List ℕ} {items : List Item} {q : Queue} {h : Head} {estimates : Estimates} (l : Lain holidays items q h estimates) where
+module _ {holidays : List ℕ} {items : List Item} {q : Queue} {h : Head} {estimates : Estimates}
+    (l : Lain holidays items q h estimates) where
   abbrev account : Account
   account = account_in items q h estimates
 
@@ -91,8 +92,8 @@ record Left (after : List Item) (q : Queue) (s : Standing) : Type 0 where
   room : q.front + q.count ≤ most_end
   few : q.count ≤ capacity
 
-module _ (holidays : List ℕ) (after : List Item) (r : Entered) (volumes : List ℕ) {items : List Item} {q : Queue} {h : Head} {estimates : Estimates}
-    (l : Lain holidays items q h estimates) where
+module _ (holidays : List ℕ) (after : List Item) (r : Entered) (volumes : List ℕ) {items : List Item} {q : Queue} {h : Head}
+    {estimates : Estimates} (l : Lain holidays items q h estimates) where
   abbrev s : Standing
   s = lying items q
 
@@ -188,7 +189,8 @@ module _ (holidays : List ℕ) (after : List Item) (r : Entered) (volumes : List
     read_comes {p = p} {line = Frame call} enters plans =
         ⊎_elim
         (λ none. let passed = passes plans none in
-        subst (λ (x : Plan). x.number ≡ 0 → Enters holidays items q x after r → Comes after h estimates x r volumes (outcome holidays a call))
+        subst
+        (λ (x : Plan). x.number ≡ 0 → Enters holidays items q x after r → Comes after h estimates x r volumes (outcome holidays a call))
         (sym passed.plan_is) (passed_comes listed call passed.first passed.shown) none enters)
         (λ some. let is = number_is plans ∙ ap (λ (x : Head). first_refusal x call) (sym (head_is l)) in
         unasked_comes some (outcome_declined holidays a call listed (lain_whole l) p.number is some) (enters.declined some))

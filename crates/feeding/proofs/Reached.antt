@@ -36,10 +36,12 @@ reached_call holidays a call r =
     record {
       calls = r.calls ++ (call ∷ []);
       account_is =
-          ap (λ x. (outcome holidays x call).account) r.account_is ∙ sym (ap (λ (q : Run). q.account) (run_behind holidays start r.calls call));
+          ap (λ x. (outcome holidays x call).account) r.account_is ∙
+          sym (ap (λ (q : Run). q.account) (run_behind holidays start r.calls call));
     }
 
-pub reached_parsed : (holidays : List ℕ) (a : Account) (p : Parsed) → Reached holidays a → Reached holidays (parsed_outcome holidays a p).account
+pub reached_parsed : (holidays : List ℕ) (a : Account) (p : Parsed) → Reached holidays a
+    → Reached holidays (parsed_outcome holidays a p).account
 reached_parsed holidays a p r = by_test (list_allowed holidays) (λ e. rw e (read p)) (λ e. rw e r)
   where
     read : (line : Parsed) → Reached holidays (read_outcome holidays a line).account

@@ -32,8 +32,8 @@ pub record Running (holidays input text : List ℕ) (s : State) (items : List It
       Ahead (feeding holidays (length text) s input) text w.taken w.written
       (fed_from holidays input w.taken (length text - w.written) (state_in items line w)) out
 
-pub running_start : {holidays input text : List ℕ} {items : List Item} {q : Queue} {h : Head} {estimates : Estimates} {begun : ℕ} {line : List ℕ}
-    → Lain holidays items q h estimates → length line ≡ kept_most → (begun ≡ 0 → line ≡ blank_line)
+pub running_start : {holidays input text : List ℕ} {items : List Item} {q : Queue} {h : Head} {estimates : Estimates} {begun : ℕ}
+    {line : List ℕ} → Lain holidays items q h estimates → length line ≡ kept_most → (begun ≡ 0 → line ≡ blank_line)
     → Running holidays input text (state (account_in items q h estimates) begun line) items line text (went_to h estimates q begun 0 0)
 running_start {text = text} l long clear =
     record {

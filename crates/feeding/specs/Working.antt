@@ -28,7 +28,8 @@ pub record Lain (holidays : List ℕ) (items : List Item) (q : Queue) (h : Head)
   pub count_is : estimates.count ≡ h.standing
   pub reached : Reached holidays (account_in items q h estimates)
 
--- Lines can be fed, by a list within its bounds, to the parts of an account, whose items lie in the lanes, and to a line that may have begun.
+-- Lines can be fed, by a list within its bounds, to the parts of an account, whose items lie in the lanes, and to a line that may have
+-- begun.
 pub record Feedable (us bs ls holidays : List ℕ) (q : Queue) (h : Head) (estimates : Estimates) (begun : ℕ) (line : List ℕ) : Type 0 where
   pub listed : list_allowed holidays ≡ true
   pub long : Long us bs ls

@@ -1,4 +1,6 @@
 // The lines of a household's file, fed in pieces of any size: each is read, planned, entered and answered.
+#![tactic(auto)]
+
 ghost use Rattle.std.specs.Prelude.{◌≡◌, true, false, ◌+◌, ◌≤◌, ◌<◌, length, take};
 ghost use Rattle.meter.specs.declared.Estimates.{Estimates};
 ghost use Rattle.ledger.specs.Entries.{Enterable};
@@ -22,7 +24,7 @@ use plan::Plan;
 
 // What a run of lines leaves: the account, in the parts that it is worked in, the characters kept of a line that has begun, the bytes
 // taken and the bytes written.
-#[derive(Drop)]
+#[derive(Clone, Copy)]
 pub struct Went {
     pub head: Head,
     pub estimates: Estimates,

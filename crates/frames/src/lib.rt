@@ -1,4 +1,6 @@
 // Lines that come in: a line to the call that it is the frame of.
+#![tactic(auto)]
+
 ghost use Rattle.std.specs.Prelude.{◌≡◌, ◌+◌, ◌≤◌, length, take, drop};
 ghost use Rattle.frames.specs.Digits.{value_or, ValueTable, read_of};
 ghost use Rattle.frames.specs.Numbers.{widths, widths_by, no_fields, fields_of, call_of, SmallIn, Checked, ReadIn, ReadAt, Begins, FieldIn, Any2, Any3};
@@ -7,14 +9,14 @@ use intake::Call;
 use tariff::Fuel;
 
 // What a line is.
-#[derive(Drop)]
+#[derive(Clone, Copy)]
 pub enum Parsed {
     Frame(Call),
     NotAFrame,
 }
 
 // What stands in a frame: its width, 0 where there is none, the second character of its kind, and its fields.
-#[derive(Drop)]
+#[derive(Clone, Copy)]
 pub struct Fields {
     pub width: usize,
     pub kind: u8,
@@ -26,7 +28,7 @@ pub struct Fields {
 }
 
 // The characters of a frame, and of each of its fields behind the day.
-#[derive(Drop)]
+#[derive(Clone, Copy)]
 pub struct Widths {
     pub size: usize,
     pub first: usize,

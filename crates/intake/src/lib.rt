@@ -1,4 +1,6 @@
 // A call, the head of the account that it comes to, and numbers 1 to 11, by which it is declined for what these two show.
+#![tactic(auto)]
+
 pub mod limits;
 pub mod periods;
 pub mod refusals;
@@ -8,7 +10,7 @@ use meter::Meter;
 use tariff::Fuel;
 
 // `start` is the first day of the period that runs, `stop` the day of the stop.
-#[derive(Drop)]
+#[derive(Clone, Copy)]
 pub enum Status {
     New,
     Supplied { start: u16 },
@@ -16,7 +18,7 @@ pub enum Status {
     Cancelled,
 }
 
-#[derive(Drop)]
+#[derive(Clone, Copy)]
 pub enum Call {
     // 01: opening
     Opening {
@@ -77,7 +79,7 @@ pub enum Call {
 }
 
 // The numbers of an account without its estimates and its ledger. `latest` is the day of the latest accepted call, `standing` how many estimates stand.
-#[derive(Drop)]
+#[derive(Clone, Copy)]
 pub struct Head {
     pub status: Status,
     pub latest: u16,

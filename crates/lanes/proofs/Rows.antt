@@ -83,11 +83,7 @@ slide_next old d front i h =
     sym (get_or-drop front old i d) in
     rw read (fill_next (drop front old) old d i (omega arith) (omega arith))
 
--- The items after a call that was lent the three arrays.
-abbrev pub rows_in : {A : Type 0} → List ℕ × (List ℕ × (List ℕ × A)) → List Item
-rows_in last = rows last.0 last.1.0 last.1.1.0
-
--- Three arrays of lanePlaces: how many items they are, the item at a place, and less unpaid stored there.
+-- Three arrays of lane_places: how many items they are, the item at a place, and less unpaid stored there.
 module _ {us bs ls : List ℕ} (long : Long us bs ls) where
   pub rows_long : length (rows us bs ls) ≡ lane_places
   rows_long = omega (arith, length_rows us bs ls, long)

@@ -1,4 +1,6 @@
 // The items of a queue in three lanes of numbers, and an entry worked where they lie: specs/Lanes.
+#![tactic(auto)]
+
 ghost use Rattle.std.specs.Prelude.{◌≡◌, ◌++◌, ℕ, ◌+◌, ◌≤◌, ◌<◌, get_or, set, take, drop};
 ghost use Rattle.lists.specs.Pad.{pad};
 ghost use Rattle.ledger.specs.Limits.{capacity, lane_places};

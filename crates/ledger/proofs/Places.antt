@@ -34,7 +34,8 @@ part_oldest front (suc count) paid items h =
     )
 
 -- An item is stored behind the last; where nothing of it is unpaid, its place stays free.
-pub part_behind : (due : ℕ) (kind : Kind) (day amount unpaid front count at : ℕ) (items : List Item) → front + count ≡ at → at < length items
+pub part_behind : (due : ℕ) (kind : Kind) (day amount unpaid front count at : ℕ) (items : List Item)
+    → front + count ≡ at → at < length items
     → part front (count + places unpaid) (set items at (made due kind day amount unpaid)) ≡
     part front count items ++ posted due kind day amount unpaid
 unfolding places posted

@@ -35,7 +35,8 @@ length_less paid (item ∷ items) = refl
 abbrev pub with_posted : Settled → ℕ → ℕ
 with_posted r n = n + places r.heldleft + places r.chargeleft + places r.arisenleft
 
-items_count : (holidays : List ℕ) (day : ℕ) (r : Settled) (rest : List Item) → length (items_after holidays day r rest) ≡ with_posted r (length rest)
+items_count : (holidays : List ℕ) (day : ℕ) (r : Settled) (rest : List Item)
+    → length (items_after holidays day r rest) ≡ with_posted r (length rest)
 items_count holidays day r rest = simp (length-append, length_less, length_posted) (omega arith)
 
 -- An entry at a queue that lies among items, and what its money covers of them.
@@ -173,7 +174,8 @@ module _ (k : Settling) where
   -- an entry that is accepted leaves no more open than the queue has places
   pub few_after : r.number ≡ 0 → r.queue.count ≤ capacity
   few_after z =
-      rw queue_of_lem (number_passes (length (asked holidays e s).open_items) (asked holidays e s).credit (sym number_of_lem ∙ z)).count_most
+      rw queue_of_lem
+      (number_passes (length (asked holidays e s).open_items) (asked holidays e s).credit (sym number_of_lem ∙ z)).count_most
 
   -- the interest that the numbers post
   abbrev pub interest : ℕ

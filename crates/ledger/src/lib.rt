@@ -1,4 +1,6 @@
 // The ledger of an account: the queue of open items, settling, posting and late interest. Articles 20(1), 27 and 28 of the supply terms.
+#![tactic(auto)]
+
 ghost use Rattle.std.specs.Prelude.{◌≡◌, true, [], ◌≤◌};
 ghost use Rattle.ledger.specs.Interest.{is_price, body, interest_on};
 ghost use Rattle.ledger.specs.Settling.{unpaid_of};
@@ -11,13 +13,13 @@ pub mod numbers;
 
 use crate::limits::CAPACITY;
 
-#[derive(Drop)]
+#[derive(Clone, Copy)]
 pub enum Kind {
     Interest,
     Price,
 }
 
-#[derive(Drop)]
+#[derive(Clone, Copy)]
 pub struct Item {
     pub amount: u64,
     pub unpaid: u64,
@@ -27,7 +29,7 @@ pub struct Item {
 }
 
 // The open items from the front, oldest first; interest held until the next closing; the credit balance.
-#[derive(Drop)]
+#[derive(Clone, Copy)]
 pub struct Ledger {
     pub count: usize,
     pub items: [Item; CAPACITY],
@@ -36,7 +38,7 @@ pub struct Ledger {
 }
 
 // The items from the front that an amount covers, what is left of it, and the interest that they bring.
-#[derive(Drop)]
+#[derive(Clone, Copy)]
 pub struct Coverage {
     pub covered: usize,
     pub left: u64,
@@ -44,7 +46,7 @@ pub struct Coverage {
 }
 
 // What a call asks of the ledger: money that comes in, and a charge where it closes; with `posts`, interest that is held then is posted as one last item.
-#[derive(Drop)]
+#[derive(Clone, Copy)]
 pub struct Entry {
     pub day: u16,
     pub money: u64,
@@ -54,7 +56,7 @@ pub struct Entry {
 }
 
 // The numbers of a queue of items that lie from `front` on; `owed` is what is unpaid of them.
-#[derive(Drop)]
+#[derive(Clone, Copy)]
 pub struct Queue {
     pub front: usize,
     pub count: usize,
@@ -64,7 +66,7 @@ pub struct Queue {
 }
 
 // What an entry is answered where the items lie: 0, 12 or 13, the interest posted, and the queue after it.
-#[derive(Drop)]
+#[derive(Clone, Copy)]
 pub struct Entered {
     pub number: u8,
     pub interest: u64,
@@ -72,7 +74,7 @@ pub struct Entered {
 }
 
 // What an entry is answered on a ledger, with the ledger after it and what is unpaid on it.
-#[derive(Drop)]
+#[derive(Clone, Copy)]
 pub struct Posted {
     pub number: u8,
     pub ledger: Ledger,
@@ -172,6 +174,7 @@ pub fn credit_of(net: i32) -> u64
 }
 
 // The interest of an item that is settled on a day: 27.
+#[tactic(auto, using(crate::proofs::Interest::body_most), unfolding(crate::specs::Interest::interest_on))]
 pub fn interest_on(item: Item, day: u16) -> u64
     requires { is_price item.kind ≡ true → item.amount ≤ most_price }
     ensures { result ≡ interest_on item day }

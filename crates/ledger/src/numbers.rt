@@ -8,7 +8,7 @@ use crate::limits::{CAPACITY, MOST_CREDIT};
 use crate::{Coverage, Entry, Queue};
 
 // How many items are open, what is unpaid of them, and the credit.
-#[derive(Drop)]
+#[derive(Clone, Copy)]
 pub struct Tally {
     pub count: usize,
     pub owed: u64,
@@ -16,7 +16,7 @@ pub struct Tally {
 }
 
 // A tally after a step, and what is paid of the oldest item that stays, or unpaid of the item posted (0: none is).
-#[derive(Drop)]
+#[derive(Clone, Copy)]
 pub struct Step {
     pub tally: Tally,
     pub part: u64,
@@ -24,7 +24,7 @@ pub struct Step {
 
 // What an entry comes to: 0, 12 or 13; the queue; what is paid of the oldest item that stays. Of the interest held, the charge and the
 // interest that arose: the amount, and what stays unpaid of it (0: no item).
-#[derive(Drop)]
+#[derive(Clone, Copy)]
 pub struct Settled {
     pub number: u8,
     pub queue: Queue,

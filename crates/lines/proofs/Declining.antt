@@ -5,7 +5,7 @@ use Rattle.account.specs.{declared.Account.Account, declared.Outcome.Outcome, Ou
 use Rattle.frames.specs.{declared.Parsed.Parsed, Digits.written, Frames.parsed}
 use Rattle.answers.specs.Answers.{answer_line, longest_answer}
 use Rattle.lines.specs.Feeding.{kept_most, blank_line, nothing, between, feeding}
-use Rattle.lines.specs.{declared.Kept.Kept, declared.Fed.Fed, declared.State.State, Line.parsed_outcome, Going.state, Going.fed_from}
+use Rattle.lines.specs.{declared.Kept.Kept, declared.State.State, Line.parsed_outcome, Going.state, Going.fed_from}
 use Rattle.lines.specs.Going.{Keeps, Declines}
 use Rattle.lines.proofs.Feeding.{Ahead, ahead_start, ahead_leads, ahead_done, ahead_text}
 use Rattle.lines.proofs.Going.{input_ended, ahead_turn, found_no_end, found_no_room, kept_ends}
@@ -34,7 +34,8 @@ declining_start {text = text} s long clear =
     }
 
 -- The answer to a line.
-declined_line : (holidays : List ℕ) → list_allowed holidays ≡ false → (a : Account) (line : Parsed) → parsed_outcome holidays a line ≡ declined a 14
+declined_line : (holidays : List ℕ) → list_allowed holidays ≡ false → (a : Account) (line : Parsed)
+    → parsed_outcome holidays a line ≡ declined a 14
 declined_line holidays unlisted a line = rw unlisted refl
 
 -- Nothing is left that could be done.

@@ -50,7 +50,8 @@ module _ (holidays input : List ℕ) (at room : ℕ) (s : State) where
         rw (is, add-one at) (record { same_state = refl; same_output = refl; same_taken = omega arith })
 
     line_ends_lem : byte ≡ line_feed → longest_answer ≤ room → {p : Parsed} → parsed (line_of s) ≡ p
-        → Leads at (at + 1) (fed_from holidays input at room s) (fed_behind holidays input (at + 1) room (parsed_outcome holidays s.account p))
+        → Leads at (at + 1) (fed_from holidays input at room s)
+        (fed_behind holidays input (at + 1) room (parsed_outcome holidays s.account p))
     line_ends_lem e r is =
         let ends = next_byte ∙ feed_ends holidays room s byte (drop (suc at) input) e r in
         rw (ends, ← is, add-one at) (record { same_state = refl; same_output = refl; same_taken = omega arith })
@@ -214,7 +215,8 @@ module _ {input : List ℕ} {from begun : ℕ} {line kept : List ℕ} {r : Kept}
         → Found input from room begun line kept (waiting_at r.taken r.length)
     found_no_room more short = found_waiting (λ holidays a. line_waits holidays input r.taken room (stands a) more (k.ends more) short)
 
-  pub kept_ends : r.taken < length input → longest_answer ≤ room → (holidays : List ℕ) (a : Account) {p : Parsed} → parsed (take r.length kept) ≡ p
+  pub kept_ends : r.taken < length input → longest_answer ≤ room → (holidays : List ℕ) (a : Account) {p : Parsed}
+      → parsed (take r.length kept) ≡ p
       → Leads from (r.taken + 1) (fed_from holidays input from room (state a begun line))
       (fed_behind holidays input (r.taken + 1) room (parsed_outcome holidays a p))
   kept_ends more left holidays a is =

@@ -1,4 +1,6 @@
 // The next line of a household's file that comes in pieces: a frame where it lies, and else its characters as they come.
+#![tactic(auto)]
+
 ghost use Rattle.std.specs.Prelude.{◌≡◌, true, false, List, ℕ, ◌+◌, min, ◌≤◌, length};
 ghost use Rattle.duedays.specs.DueDays.{list_allowed};
 ghost use Rattle.lines.specs.Feeding.{kept_most, blank_line, fresh};
@@ -12,7 +14,7 @@ use frames::Fields;
 pub const KEPT_MOST: usize = 31;
 
 // What is kept between pieces: the account, and the first characters of a line that has begun.
-#[derive(Drop)]
+#[derive(Clone, Copy)]
 pub struct State {
     pub account: Account,
     pub length: usize,
@@ -20,7 +22,7 @@ pub struct State {
 }
 
 // The state behind a piece, the bytes of the piece that were taken and the bytes written.
-#[derive(Drop)]
+#[derive(Clone, Copy)]
 pub struct Fed {
     pub state: State,
     pub taken: usize,
@@ -41,7 +43,7 @@ impl State {
 
 // What is found of the next line: whether it ended, the numbers of its frame (width 0: it is none), the bytes taken up to there, and how
 // many characters are kept of a line that has begun.
-#[derive(Drop)]
+#[derive(Clone, Copy)]
 pub struct Next {
     pub ended: bool,
     pub fields: Fields,
@@ -160,7 +162,7 @@ pub fn decline_lines(state: State, input: &[u8], out: &mut [u8]) -> Fed
 }
 
 // How far the characters of a line go, and how many of them are kept.
-#[derive(Drop)]
+#[derive(Clone, Copy)]
 pub struct Kept {
     pub taken: usize,
     pub length: usize,

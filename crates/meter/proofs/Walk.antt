@@ -1,6 +1,7 @@
 -- The sharing rule as a walk back from the latest period, over any number of periods. Assumes nothing.
 use Rattle.common.proofs.Words.{◌≡◌, ◌∙◌, Bool, true, false, cond, not, List, [], ◌∷◌, ◌++◌, reverse, reverse-cons, ℕ, suc, ◌+◌, ◌-◌, ◌≤◌}
-use Rattle.common.proofs.Words.{◌<◌, le_refl, arith, length, get_or, set, take, drop, replicate, length-set, length-replicate, length-reverse}
+use Rattle.common.proofs.Words.{◌<◌, le_refl, arith, length, get_or, set, take, drop, replicate}
+use Rattle.common.proofs.Words.{length-set, length-replicate, length-reverse}
 use Rattle.common.proofs.Words.{take-suc, drop-cons, get_or-set_same, drop-set-lt, append_snoc, take-length}
 use mathlib.Core.List.{reverse-append}
 use Rattle.lists.specs.Pad.{pad}

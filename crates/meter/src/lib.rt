@@ -1,4 +1,6 @@
 // Dials and volumes: articles 13 and 14 of the supply terms.
+#![tactic(auto)]
+
 ghost use Rattle.std.specs.Prelude.{◌≡◌, [], ◌∷◌, ◌++◌, map, ◌+◌, ◌≤◌, ◌<◌};
 ghost use Rattle.tariff.specs.Limits.{most_volume};
 ghost use Rattle.meter.specs.Dial.{span, advance, within_half, Digits, OnDial};
@@ -8,7 +10,7 @@ use tariff::Fuel;
 
 // A meter under supply: its digits and what its dial showed last; the advance of all meters since the last real closing reading;
 // the volume of the latest period.
-#[derive(Drop)]
+#[derive(Clone, Copy)]
 pub struct Meter {
     pub digits: u8,
     pub dial: u32,
@@ -17,7 +19,7 @@ pub struct Meter {
 }
 
 // A period billed on an estimate, until a reading makes its volume final. `absent` marks a period of known absence, 14(6).
-#[derive(Drop)]
+#[derive(Clone, Copy)]
 pub struct Estimate {
     pub absent: bool,
     pub days: u16,
@@ -27,21 +29,21 @@ pub struct Estimate {
 }
 
 // Standing estimates, oldest first.
-#[derive(Drop)]
+#[derive(Clone, Copy)]
 pub struct Estimates {
     pub count: usize,
     pub periods: [Estimate; 6],
 }
 
 // Volumes made final, oldest first.
-#[derive(Drop)]
+#[derive(Clone, Copy)]
 pub struct Volumes {
     pub count: usize,
     pub volumes: [u32; 7],
 }
 
 // What a period takes of a pool, and what is left for how many periods before it.
-#[derive(Drop)]
+#[derive(Clone, Copy)]
 pub struct Share {
     pub part: u32,
     pub left: u32,

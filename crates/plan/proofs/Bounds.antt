@@ -13,7 +13,8 @@ use Rattle.meter.specs.{declared.Estimate.Estimate, declared.Estimates.Estimates
 use Rattle.ledger.specs.{Limits.last_call_day, Posting.NetBounds, Entries.EntryBounds}
 use Rattle.intake.specs.declared.Call.TheVariants.{Opening, Reading, Missed, Absent, Exchange, Disconnection, Reconnection, Cancellation}
 use Rattle.intake.specs.declared.Call.TheVariants.{Payment, StoppedCancellation}
-use Rattle.intake.specs.{declared.Head.Head, declared.Call.Call, Limits.most_misses, Limits.most_volume, Statuses.is_stopped, Statuses.start_of}
+use Rattle.intake.specs.{declared.Head.Head, declared.Call.Call, Limits.most_misses, Limits.most_volume}
+use Rattle.intake.specs.{Statuses.is_stopped, Statuses.start_of}
 use Rattle.intake.specs.{Periods.days_of, Refusals.reading_refusal, Refusals.miss_refusal, Refusals.first_refusal}
 use Rattle.intake.specs.Heads.{HeadBounds, EstimateBounds}
 use Rattle.plan.specs.Plans.{no_entry, changed, Room, miss_plan, read_plan, passed_plan}

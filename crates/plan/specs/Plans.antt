@@ -10,7 +10,8 @@ use Rattle.intake.specs.declared.Call.TheVariants.{Payment, StoppedCancellation}
 use Rattle.intake.specs.declared.Status.{Status}
 use Rattle.intake.specs.declared.Status.TheVariants.{Supplied, Stopped, Cancelled}
 use Rattle.intake.specs.{declared.Head.Head, declared.Call.Call, Limits.most_misses, Heads.head_on, Heads.HeadBounds, Heads.EstimatesFit}
-use Rattle.intake.specs.{Statuses.is_cancelled, Statuses.start_of, Statuses.stop_of, Periods.days_of, Periods.day_after, Periods.resumed_start}
+use Rattle.intake.specs.{Statuses.is_cancelled, Statuses.start_of, Statuses.stop_of}
+use Rattle.intake.specs.{Periods.days_of, Periods.day_after, Periods.resumed_start}
 use Rattle.intake.specs.Refusals.{reading_refusal, first_refusal}
 use Rattle.plan.specs.declared.Change.{Change}
 use Rattle.plan.specs.declared.Change.TheVariants.{Kept, Cleared, Added}

@@ -1,4 +1,6 @@
 // What a call plans on the numbers of an account: what it makes of status, meter and estimates, and what it asks of the ledger.
+#![tactic(auto)]
+
 pub mod plans;
 
 use intake::Head;
@@ -7,7 +9,7 @@ use meter::Estimate;
 use tariff::Fuel;
 
 // What becomes of the estimates.
-#[derive(Drop)]
+#[derive(Clone, Copy)]
 pub enum Change {
     Kept,
     Cleared,
@@ -15,7 +17,7 @@ pub enum Change {
 }
 
 // What follows a reading: the next period, a stop, or the end.
-#[derive(Drop)]
+#[derive(Clone, Copy)]
 pub enum Then {
     Goes,
     Stops,
@@ -23,7 +25,7 @@ pub enum Then {
 }
 
 // What 02, 06 and 08 have in common, and what follows.
-#[derive(Drop)]
+#[derive(Clone, Copy)]
 pub struct ClosingRead {
     pub day: u16,
     pub reading: u32,
@@ -32,7 +34,7 @@ pub struct ClosingRead {
 }
 
 // What 03 and 04 have in common, and whether absence is known.
-#[derive(Drop)]
+#[derive(Clone, Copy)]
 pub struct Miss {
     pub day: u16,
     pub fuel: Fuel,
@@ -40,7 +42,7 @@ pub struct Miss {
 }
 
 // `number` is 1 to 11, or 0. `asks`: the entry is asked of the ledger. The last three are numbers of the answer.
-#[derive(Drop)]
+#[derive(Clone, Copy)]
 pub struct Plan {
     pub number: u8,
     pub head: Head,

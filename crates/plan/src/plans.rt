@@ -9,8 +9,8 @@ ghost use Rattle.intake.specs.Limits.{most_volume};
 ghost use Rattle.intake.specs.Refusals.{begins, dial_refusal, miss_refusal, exchange_refusal, payment_refusal};
 ghost use Rattle.intake.specs.Heads.{HeadBounds};
 ghost use Rattle.plan.specs.Plans.{ends, status_after, quiet_plan, planned_as, begun_plan, exchanged_plan, payment_plan, stopped_plan};
-ghost use Rattle.plan.specs.Plans.{asking_plan, money_entry, held_entry, miss_plan, missed_volume, figured_plan, read_planned, read_volumes};
-ghost use Rattle.plan.specs.Plans.{reading_in, miss_in, misses, planned, planned_volumes, reads, Plannable};
+ghost use Rattle.plan.specs.Plans.{asking_plan, money_entry, held_entry, miss_plan, missed_volume, figured_plan, read_planned};
+ghost use Rattle.plan.specs.Plans.{read_volumes, reading_in, miss_in, misses, planned, planned_volumes, reads, Plannable};
 ghost use Rattle.closing.specs.Closing.{filled_with};
 
 use crate::{Change, ClosingRead, Miss, Plan, Then};

@@ -89,7 +89,8 @@ module _ (holidays : List ℕ) {s : State} {part : List ℕ} (h : Holds s part) 
           output_is = rw (e, ← kept_account s c) w.output_is;
         }
 
-went : (holidays bytes : List ℕ) (room : ℕ) {s : State} {part : List ℕ} → Holds s part → Went holidays s part bytes (feeding holidays room s bytes)
+went : (holidays bytes : List ℕ) (room : ℕ) {s : State} {part : List ℕ} → Holds s part
+    → Went holidays s part bytes (feeding holidays room s bytes)
 unfolding feeding
 went holidays [] room h = went_nothing holidays h []
 went holidays (c ∷ cs) room {s} h =
@@ -156,7 +157,8 @@ module _ {holidays seen out : List ℕ} {s : State} (w : Stands holidays seen ou
       rw (lines_all seen, last_none (part_after [] seen) (omega arith)) (append-nil (lines_in [] seen)) in
       record { out_is = rw (append-nil out, lines) w.out_is; at_end = record { account_is = rw lines w.account_is; none_begun = z } }
 
-  ended_line : (s.length ≡ 0 → ⊥) → Ended holidays seen out (behind (answer_line (line_ends holidays s).answer) (nothing (ended holidays s)))
+  ended_line : (s.length ≡ 0 → ⊥)
+      → Ended holidays seen out (behind (answer_line (line_ends holidays s).answer) (nothing (ended holidays s)))
   unfolding bill answers_of account_after
   ended_line n =
       let part = part_after [] seen in
@@ -166,7 +168,11 @@ module _ {holidays seen out : List ℕ} {s : State} (w : Stands holidays seen ou
       let read = line_read w.holds in
       record {
         out_is = rw (read, lines, text_behind holidays new_account before (part ∷ []), ← w.account_is, ← w.out_is);
-        at_end = record { account_is = rw (read, lines, account_behind holidays new_account before (part ∷ []), ← w.account_is); none_begun = refl };
+        at_end =
+            record {
+              account_is = rw (read, lines, account_behind holidays new_account before (part ∷ []), ← w.account_is);
+              none_begun = refl;
+            };
       }
 
   pub stands_end : (room : ℕ) → longest_answer ≤ room → Ended holidays seen out (finishing holidays room s)
@@ -176,7 +182,8 @@ module _ {holidays seen out : List ℕ} {s : State} (w : Stands holidays seen ou
       (λ e. let z = eqb-true s.length 0 e in rw (finish_none holidays room s z) (ended_none z))
       (λ e.
       let n = eqb-false s.length 0 e in
-      rw (finish_line holidays room s n, feed_ends holidays room s line_feed [] refl r, fed_none holidays left (ended holidays s)) (ended_line n))
+      rw (finish_line holidays room s n, feed_ends holidays room s line_feed [] refl r, fed_none holidays left (ended holidays s))
+      (ended_line n))
 
 -- A state that follows what was taken follows one more piece, as far as it was taken.
 pub follows_start : (holidays : List ℕ) → Follows holidays [] fresh
@@ -203,7 +210,8 @@ stands_all (piece ∷ pieces) {holidays} {seen} {out} {s} w =
     (stands_all pieces (stands_on w piece.room piece.bytes))
 
 pub in_pieces : (holidays : List ℕ) (pieces : List Piece) (room : ℕ) → longest_answer ≤ room
-    → Ended holidays (taken_of holidays fresh pieces) (written_of holidays fresh pieces) (finishing holidays room (state_after holidays fresh pieces))
+    → Ended holidays (taken_of holidays fresh pieces) (written_of holidays fresh pieces)
+    (finishing holidays room (state_after holidays fresh pieces))
 in_pieces holidays pieces room r = stands_end (stands_all pieces (stands_start holidays)) room r
 
 -- The account that lines leave is reached, and a state behind some input can be fed.

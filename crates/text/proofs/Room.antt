@@ -61,7 +61,8 @@ line_short answer volumes e few =
 refusal_short : (a : Account) (number : ℕ) → length (answer_line (declined a number).answer) ≤ longest_answer
 refusal_short a number = line_short (declined a number).answer [] refl (omega arith)
 
-call_short : (holidays : List ℕ) (a : Account) (call : Call) → whole a ≡ true → length (answer_line (outcome holidays a call).answer) ≤ longest_answer
+call_short : (holidays : List ℕ) (a : Account) (call : Call) → whole a ≡ true
+    → length (answer_line (outcome holidays a call).answer) ≤ longest_answer
 unfolding outcome
 call_short holidays a call w =
     by_test (eqb (refusal holidays a call) 0)

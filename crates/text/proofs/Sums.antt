@@ -59,4 +59,7 @@ volumes_run holidays (line ∷ lines) r =
 pub sums : (holidays : List ℕ) (lines : List (List ℕ)) → Sums holidays lines
 sums holidays lines =
     let claim = reconciled holidays (calls_of lines) in
-    record { volumes = omega (arith, volumes_run holidays lines start, claim.volumes); yen = rw (account_run holidays lines start) claim.yen }
+    record {
+      volumes = omega (arith, volumes_run holidays lines start, claim.volumes);
+      yen = rw (account_run holidays lines start) claim.yen;
+    }

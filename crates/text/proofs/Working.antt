@@ -36,7 +36,7 @@ made_none holidays = refl
 
 pub working_start : (holidays input text : List ℕ) (writing : Bool) → Working holidays input text writing text fresh 0 0
 working_start holidays input text writing =
-    let same : text ≡ cond writing text text = elim writing [ true ↦ refl | false ↦ refl ] in
+    let same = elim writing as (λ b. text ≡ cond b text text) [ true ↦ refl | false ↦ refl ] in
     record { stands = follows_start holidays; size_is = rw (made_none holidays) refl; out_is = rw (made_none holidays) same }
 
 -- What is written behind what stands, if it is to be written.

@@ -15,7 +15,9 @@ use Rattle.text.specs.Lines.{lines_of}
 -- Each line on the account that the line before left.
 unfoldable pub answers_of : List ℕ → Account → List (List ℕ) → List Answer
 answers_of holidays a [] = []
-answers_of holidays a (line ∷ lines) = (line_outcome holidays a line).answer ∷ answers_of holidays (line_outcome holidays a line).account lines
+answers_of holidays a (line ∷ lines) =
+    (line_outcome holidays a line).answer ∷
+    answers_of holidays (line_outcome holidays a line).account lines
 
 unfoldable pub account_after : List ℕ → Account → List (List ℕ) → Account
 account_after holidays a [] = a

@@ -1,11 +1,14 @@
 // From the bytes of a household's file to the bytes that the programs write.
+#![tactic(auto)]
+
 ghost use Rattle.std.specs.Prelude.{◌≡◌, true, false, cond, ◌+◌, ◌*◌, min, ◌≤◌, ◌<◌, length, take, drop};
 ghost use Rattle.account.specs.Calls.{new_account};
 ghost use Rattle.frames.specs.Digits.{written};
 ghost use Rattle.answers.specs.Answers.{longest_answer};
 ghost use Rattle.ledger.specs.Limits.{capacity};
 ghost use Rattle.answers.specs.Notices.{notice_length};
-ghost use Rattle.text.specs.Output.{account_after, notices_of, open_notices, bill, notice, longest_input, size_of, fitted_at, fitted, worked};
+ghost use Rattle.text.specs.Output.{account_after, notices_of, open_notices, bill, notice, longest_input, size_of};
+ghost use Rattle.text.specs.Output.{fitted_at, fitted, worked};
 ghost use Rattle.text.specs.Lines.{ends_in, lines_of};
 ghost use Rattle.text.specs.Pieces.{Sums};
 
@@ -16,7 +19,7 @@ use ledger::limits::CAPACITY;
 use lines::State;
 
 // What a whole input leaves: the account, and the size of what `bill` writes for it.
-#[derive(Drop)]
+#[derive(Clone, Copy)]
 pub struct Billed {
     pub account: Account,
     pub size: usize,

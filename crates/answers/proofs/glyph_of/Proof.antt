@@ -1,12 +1,12 @@
-use Rattle.common.proofs.Words.{lt-ltb, le-ltb, needs}
+use Rattle.common.proofs.Words.{lt-ltb, le-ltb, rules}
 use Rattle.answers.proofs.glyph_of.Statement.{statement}
 use Rattle.answers.proofs.glyph_of.Tie as tie
 
-pub glyph-of-spec : {M : Type 1} → statement M
-glyph-of-spec =
+pub glyph_of_spec : {M : Type 1} → statement M
+glyph_of_spec =
     tie.close
     (tie.spec
-    (λ c. search needs)  -- add-result
-    (λ c. search needs)  -- add-result-2
-    (λ c. rw (lt-ltb _ 10 c.if1.true))  -- returns
-    (λ c. rw (le-ltb _ 10 c.if1.false)))  -- returns-2
+    (λ c. search rules)  -- overflow_add-result
+    (λ c. search rules)  -- overflow_add-result-else-digit-lt10
+    (λ c. rw (lt-ltb _ 10 c.if-digit-lt10.true))  -- returns-then-digit-lt10
+    (λ c. rw (le-ltb _ 10 c.if-digit-lt10.false)))  -- returns-else-digit-lt10

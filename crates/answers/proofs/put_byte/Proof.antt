@@ -1,8 +1,8 @@
-use Rattle.common.proofs.Words.{◌%◌, ◌*◌, arith, add-one, get_or, length-set, needs}
+use Rattle.common.proofs.Words.{◌%◌, ◌*◌, arith, add-one, get_or, length-set, rules}
 use Rattle.answers.proofs.{Pairs.two_digits, put_byte.Statement.statement}
 use Rattle.answers.proofs.put_byte.Tie as tie
 
-slice-write-out-2 : tie.Need-slice-write-out-2
+slice-write-out-2 : tie.Need-bounds-out-at-2
 slice-write-out-2 c =
     let a = c.before.before.args in
     rw (length-set a.out.now a.at (get_or a.pairs.now (2 * (a.value % 256)) 0)) (omega arith)
@@ -14,17 +14,17 @@ returns c =
     let byte = a.value % 256 in
     rw (two_digits a.value, start.requires.1.high byte (omega arith), start.requires.1.low byte (omega arith), add-one a.at)
 
-pub put-byte-spec : {M : Type 1} → statement M
-put-byte-spec =
+pub put_byte_spec : {M : Type 1} → statement M
+put_byte_spec =
     tie.close
     (tie.spec
-    (λ c. search needs)  -- mul-high
-    (λ c. search needs)  -- element-copy-out-high
-    (λ c. search needs)  -- mul-low
-    (λ c. search needs)  -- add-low
-    (λ c. search needs)  -- element-copy-out-low
-    (λ c. search needs)  -- slice-write-out
-    (λ c. search needs)  -- add-out
+    (λ c. search rules)  -- overflow_mul-high
+    (λ c. search rules)  -- bounds-pairs-byte
+    (λ c. search rules)  -- overflow_mul-low
+    (λ c. search rules)  -- overflow_add-low
+    (λ c. search rules)  -- bounds-pairs-byte-2
+    (λ c. search rules)  -- bounds-out-at
+    (λ c. search rules)  -- overflow_add-out
     slice-write-out-2
-    (λ c. search needs)  -- same-length
+    (λ c. search rules)  -- same-length
     returns)

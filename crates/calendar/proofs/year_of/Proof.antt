@@ -1,4 +1,4 @@
-use Rattle.common.proofs.Words.{◌≡◌, sym, ℕ, ◌+◌, ◌-◌, ◌*◌, ◌/◌, ◌%◌, ◌≤◌, ◌<◌, arith, needs}
+use Rattle.common.proofs.Words.{◌≡◌, sym, ℕ, ◌+◌, ◌-◌, ◌*◌, ◌/◌, ◌%◌, ◌≤◌, ◌<◌, arith, rules}
 use Rattle.calendar.specs.Gregorian.{date_at}
 use Rattle.calendar.proofs.{Years.days_before_year_lem, Dates.year_at, year_of.Statement.statement}
 use Rattle.calendar.proofs.year_of.Tie as tie
@@ -12,23 +12,23 @@ lies number year h l low high =
     let over = days_before_year_lem (year + 1) (omega arith) (omega arith) in
     sym (year_at (omega (arith, begun, over)))
 
-returns : tie.Need-returns
+returns : tie.Need-returns-then-rest-lt366
 returns c =
     let number = c.before.args.number in
     lies number (2000 + number / 1461 * 4) (omega arith) (omega arith) (omega arith) (omega arith)
 
-returns-2 : tie.Need-returns-2
+returns-2 : tie.Need-returns-else-rest-lt366
 returns-2 c =
     let number = c.before.args.number in
     lies number (2000 + number / 1461 * 4 + (number % 1461 - 1) / 365) (omega arith) (omega arith) (omega arith) (omega arith)
 
-pub year-of-spec : {M : Type 1} → statement M
-year-of-spec =
+pub year_of_spec : {M : Type 1} → statement M
+year_of_spec =
     tie.close
     (tie.spec
-    (λ c. search needs)  -- mul-year
-    (λ c. search needs)  -- add-year
-    (λ c. search needs)  -- sub-result
-    (λ c. search needs)  -- add-result
+    (λ c. search rules)  -- overflow_mul-year
+    (λ c. search rules)  -- overflow_add-year
+    (λ c. search rules)  -- overflow_sub-result
+    (λ c. search rules)  -- overflow_add-result
     returns
     returns-2)

@@ -1,7 +1,7 @@
 -- Too little is ahead, or no LF follows, or a character is no digit: then the first line ahead is not of the form (`no_day_line`);
 -- else it is.
-use Rattle.common.proofs.Words.{◌≡◌, sym, ◌∙◌, true, List, ℕ, ◌+◌, ◌-◌, ◌≤◌, ◌<◌, arith, length, get_or, drop, take, length-drop, length-take}
-use Rattle.common.proofs.Words.{get_or-drop, needs}
+use Rattle.common.proofs.Words.{◌≡◌, sym, ◌∙◌, true, List, ℕ, ◌+◌, ◌-◌, ◌≤◌, arith, length, get_or, drop, take}
+use Rattle.common.proofs.Words.{length-drop, length-take, get_or-drop, rules}
 use Rattle.lists.specs.Every.{every}
 use Rattle.frames.specs.Digits.{is_digit, no_digit, line_feed}
 use Rattle.frames.proofs.Digits.{read_digits, digits_read, read_below}
@@ -26,30 +26,35 @@ module _ (s : tie.Start) where
   none_at other day most =
       record {
         line = λ h. absurd (omega arith);
-        none = λ h. no_day_line ahead (omega (arith, ahead_long, s.pre.0)) other;
+        none = λ h. no_day_line ahead (omega (arith, ahead_long, s.requires.0)) other;
       }
 
-returns : tie.Need-returns
-returns c = let s : tie.Start = search in none_at s (λ b. omega (arith, b.long, ahead_long s, c.if1.true)) _ (omega arith)
+returns : tie.Need-returns-then-file-at-lt4
+returns c = let s : tie.Start = search in none_at s (λ b. omega (arith, b.long, ahead_long s, c.if-file-at-lt4.true)) _ (omega arith)
 
-returns-2 : tie.Need-returns-2
+returns-2 : tie.Need-returns-then-character_at-ne10
 returns-2 c =
     let s : tie.Start = search in
-    let k : tie.After-character-at = search in
-    none_at s (λ b. c.if2.true (k.character-at.ensures ∙ sym (ahead_ends s) ∙ b.ends)) _ (omega arith)
+    let k : tie.After-character_at = search in
+    none_at s (λ b. c.if-character_at-ne10.true (k.character_at.ensures ∙ sym (ahead_ends s) ∙ b.ends)) _ (omega arith)
 
 -- Four characters and an end lie ahead: they are digits where what is read is below 2 ^ 32.
-returns-3 : tie.Need-returns-3
+returns-3 : tie.Need-returns
 returns-3 c =
     let s : tie.Start = search in
-    let long : tie.Else1 = search in
-    let ends : tie.Else2 = search in
-    let k : tie.After-character-at = search in
+    let long : tie.Else-file-at-lt4 = search in
+    let ends : tie.Else-character_at-ne10 = search in
+    let k : tie.After-character_at = search in
     let four = take 4 (ahead s) in
     let is = c.field.ensures in
-    let four-long : 4 ≤ length (ahead s) = omega (arith, ahead_long s, long.if1.left) in
+    let four_long : 4 ≤ length (ahead s) = omega (arith, ahead_long s, long.if-file-at-lt4.false) in
     let begins : every is_digit four ≡ true → Begins (ahead s) =
-    λ digits. record { digits = digits; long = four-long; ends = ahead_ends s ∙ sym k.character-at.ensures ∙ ends.if2.left } in
+    λ digits.
+    record {
+      digits = digits;
+      long = four_long;
+      ends = ahead_ends s ∙ sym k.character_at.ensures ∙ ends.if-character_at-ne10.false;
+    } in
     record {
       line = λ h.
           let digits = read_digits 0 four (rw is at h) in
@@ -57,14 +62,14 @@ returns-3 c =
       none = λ h. (none_at s (λ b. omega (arith, is, read_below four 4 (omega (arith, length-take 4 (ahead s))) b.digits)) _ h).none h;
     }
 
-pub day-at-spec : {M : Type 1} → statement M
-day-at-spec =
+pub day_at_spec : {M : Type 1} → statement M
+day_at_spec =
     tie.close
     (tie.spec
-    (λ c. search needs)  -- sub-if1
+    (λ c. search rules)  -- overflow_sub-file
     returns
-    (λ c. search needs)  -- add-character-at
-    (λ c κs. search needs)  -- character-at-requires
+    (λ c. search rules)  -- overflow_add-at
+    (λ c κs. search rules)  -- character_at-requires
     returns-2
-    (λ c κs. let s : tie.Start = search in (record { within = omega arith; few = omega arith }, s.pre.1))  -- field-requires
+    (λ c κs. let s : tie.Start = search in (record { within = omega arith; few = omega arith }, s.requires.1))  -- field-requires
     returns-3)

@@ -1,22 +1,22 @@
 -- Each test that fails tells which part is not sound.
-use Rattle.common.proofs.Words.{refl, inl, inr, arith, needs}
+use Rattle.common.proofs.Words.{refl, inl, inr, arith, rules}
 use Rattle.frames.proofs.checked.Statement.{statement}
 use Rattle.frames.proofs.checked.Tie as tie
 
-pub checked-spec : {M : Type 1} → statement M
-checked-spec =
+pub checked_spec : {M : Type 1} → statement M
+checked_spec =
     tie.close
     (tie.spec
-    (λ c κs. search needs)  -- no-frame-requires
-    (λ c. inr (c.no_frame.ensures, λ s. omega (arith, s.ends)))  -- returns
-    (λ c κs. search needs)  -- no-frame-requires-2
-    (λ c. inr (c.no-frame2.ensures, λ s. omega (arith, s.in_day)))  -- returns-2
-    (λ c κs. search needs)  -- no-frame-requires-3
-    (λ c. inr (c.no-frame3.ensures, λ s. omega (arith, s.in_first)))  -- returns-3
-    (λ c κs. search needs)  -- no-frame-requires-4
-    (λ c. inr (c.no-frame4.ensures, λ s. omega (arith, s.in_second)))  -- returns-4
-    (λ c κs. search needs)  -- no-frame-requires-5
-    (λ c. inr (c.no-frame5.ensures, λ s. omega (arith, s.in_third)))  -- returns-5
-    (λ c κs. search needs)  -- no-frame-requires-6
-    (λ c. inr (c.no-frame6.ensures, λ s. omega (arith, s.in_short)))  -- returns-6
-    (λ c. inl (refl, omega arith)))  -- returns-7
+    (λ c κs. search rules)  -- no_frame-requires
+    (λ c. inr (c.no_frame.ensures, λ s. omega (arith, s.ends)))  -- returns-then-last-ne10
+    (λ c κs. search rules)  -- no_frame-requires-then-day-ge-NO_DIGIT
+    (λ c. inr (c.no_frame-then-day-ge-NO_DIGIT.ensures, λ s. omega (arith, s.in_day)))  -- returns-then-day-ge-NO_DIGIT
+    (λ c κs. search rules)  -- no_frame-requires-then-first-ge-NO_DIGIT
+    (λ c. inr (c.no_frame-then-first-ge-NO_DIGIT.ensures, λ s. omega (arith, s.in_first)))  -- returns-then-first-ge-NO_DIGIT
+    (λ c κs. search rules)  -- no_frame-requires-then-second-ge-NO_DIGIT
+    (λ c. inr (c.no_frame-then-second-ge-NO_DIGIT.ensures, λ s. omega (arith, s.in_second)))  -- returns-then-second-ge-NO_DIGIT
+    (λ c κs. search rules)  -- no_frame-requires-then-third-ge-NO_DIGIT
+    (λ c. inr (c.no_frame-then-third-ge-NO_DIGIT.ensures, λ s. omega (arith, s.in_third)))  -- returns-then-third-ge-NO_DIGIT
+    (λ c κs. search rules)  -- no_frame-requires-then-short-ge-NO_DIGIT
+    (λ c. inr (c.no_frame-then-short-ge-NO_DIGIT.ensures, λ s. omega (arith, s.in_short)))  -- returns-then-short-ge-NO_DIGIT
+    (λ c. inl (refl, omega arith)))  -- returns

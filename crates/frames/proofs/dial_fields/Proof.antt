@@ -1,28 +1,28 @@
 -- Each field is read in its place, so what is sound lies there, by `read_at`.
-use Rattle.common.proofs.Words.{refl, needs}
+use Rattle.common.proofs.Words.{refl, rules}
 use Rattle.frames.proofs.{Numbers.dial_form, Numbers.read_at, dial_fields.Statement.statement}
 use Rattle.frames.proofs.dial_fields.Tie as tie
 
 returns : tie.Need-returns
 returns c =
     let s : tie.Start = search in
-    let day : tie.After-field = search in
-    let first : tie.After-field2 = search in
-    let short : tie.After-field3 = search in
-    read_at s.pre.0 (dial_form s.pre.1.1)
-    day.field.ensures first.field2.ensures refl refl short.field3.ensures c.checked.ensures
+    let day : tie.After-field-day = search in
+    let first : tie.After-field-first = search in
+    let short : tie.After-field-short = search in
+    read_at s.requires.0 (dial_form s.requires.1.1)
+    day.field-day.ensures first.field-first.ensures refl refl short.field-short.ensures c.checked.ensures
 
-pub dial-fields-spec : {M : Type 1} → statement M
-dial-fields-spec =
+pub dial_fields_spec : {M : Type 1} → statement M
+dial_fields_spec =
     tie.close
     (tie.spec
-    (λ c. search needs)  -- add-field
-    (λ c κs. search needs)  -- field-requires
-    (λ c. search needs)  -- add-field-2
-    (λ c κs. search needs)  -- field-requires-2
-    (λ c. search needs)  -- add-field-3
-    (λ c κs. search needs)  -- field-requires-3
-    (λ c. search needs)  -- add-checked
-    (λ c. search needs)  -- shared-slice-read-checked
-    (λ c κs. search needs)  -- checked-requires
+    (λ c. search rules)  -- overflow_add-at
+    (λ c κs. search rules)  -- field-day-requires
+    (λ c. search rules)  -- overflow_add-at-2
+    (λ c κs. search rules)  -- field-first-requires
+    (λ c. search rules)  -- overflow_add-at-3
+    (λ c κs. search rules)  -- field-short-requires
+    (λ c. search rules)  -- overflow_add-at-4
+    (λ c. search rules)  -- bounds-input-at
+    (λ c κs. search rules)  -- checked-requires
     returns)

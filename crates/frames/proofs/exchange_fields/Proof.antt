@@ -1,31 +1,31 @@
 -- Each field is read in its place, so what is sound lies there, by `read_at`.
-use Rattle.common.proofs.Words.{refl, needs}
+use Rattle.common.proofs.Words.{refl, rules}
 use Rattle.frames.proofs.{Numbers.exchange_form, Numbers.read_at, exchange_fields.Statement.statement}
 use Rattle.frames.proofs.exchange_fields.Tie as tie
 
 returns : tie.Need-returns
 returns c =
     let s : tie.Start = search in
-    let day : tie.After-field = search in
-    let first : tie.After-field2 = search in
-    let second : tie.After-field3 = search in
-    let short : tie.After-field4 = search in
-    read_at s.pre.0 (exchange_form s.pre.1.1)
-    day.field.ensures first.field2.ensures second.field3.ensures refl short.field4.ensures c.checked.ensures
+    let day : tie.After-field-day = search in
+    let first : tie.After-field-first = search in
+    let second : tie.After-field-second = search in
+    let short : tie.After-field-short = search in
+    read_at s.requires.0 (exchange_form s.requires.1.1)
+    day.field-day.ensures first.field-first.ensures second.field-second.ensures refl short.field-short.ensures c.checked.ensures
 
-pub exchange-fields-spec : {M : Type 1} → statement M
-exchange-fields-spec =
+pub exchange_fields_spec : {M : Type 1} → statement M
+exchange_fields_spec =
     tie.close
     (tie.spec
-    (λ c. search needs)  -- add-field
-    (λ c κs. search needs)  -- field-requires
-    (λ c. search needs)  -- add-field-2
-    (λ c κs. search needs)  -- field-requires-2
-    (λ c. search needs)  -- add-field-3
-    (λ c κs. search needs)  -- field-requires-3
-    (λ c. search needs)  -- add-field-4
-    (λ c κs. search needs)  -- field-requires-4
-    (λ c. search needs)  -- add-checked
-    (λ c. search needs)  -- shared-slice-read-checked
-    (λ c κs. search needs)  -- checked-requires
+    (λ c. search rules)  -- overflow_add-at
+    (λ c κs. search rules)  -- field-day-requires
+    (λ c. search rules)  -- overflow_add-at-2
+    (λ c κs. search rules)  -- field-first-requires
+    (λ c. search rules)  -- overflow_add-at-3
+    (λ c κs. search rules)  -- field-second-requires
+    (λ c. search rules)  -- overflow_add-at-4
+    (λ c κs. search rules)  -- field-short-requires
+    (λ c. search rules)  -- overflow_add-at-5
+    (λ c. search rules)  -- bounds-input-at
+    (λ c κs. search rules)  -- checked-requires
     returns)

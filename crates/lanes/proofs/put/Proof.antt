@@ -1,5 +1,5 @@
 -- Each lane is stored at the place, and the label is read back as it was made.
-use Rattle.common.proofs.Words.{ap, ◌∙◌, set, length-set, needs}
+use Rattle.common.proofs.Words.{ap, ◌∙◌, set, length-set, rules}
 use Rattle.lanes.specs.Lanes.{rows}
 use Rattle.lanes.proofs.{Rows.row_set, put.Statement.statement}
 use Rattle.lanes.proofs.put.Tie as tie
@@ -24,11 +24,11 @@ pub put_spec : {M : Type 1} → statement M
 put_spec =
     tie.close
     (tie.spec
-    (λ c. search needs)  -- mul-unpaid
-    (λ c. search needs)  -- element-write-unpaid
-    (λ c. search needs)  -- mul-amount
-    (λ c. search needs)  -- element-write-amount
-    (λ c κs. search needs)  -- label-of-requires
-    (λ c. search needs)  -- mul-label
-    (λ c. search needs)  -- element-write-label
+    (λ c. search rules)  -- offset_bounds-unpaid-at
+    (λ c. search rules)  -- bounds-unpaid-at
+    (λ c. search rules)  -- offset_bounds-amount-at
+    (λ c. search rules)  -- bounds-amount-at
+    (λ c κs. search rules)  -- label_of-requires
+    (λ c. search rules)  -- offset_bounds-label-at
+    (λ c. search rules)  -- bounds-label-at
     returns)

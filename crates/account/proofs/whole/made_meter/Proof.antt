@@ -2,6 +2,6 @@ use Rattle.account.specs.Whole.{made_meter}
 use Rattle.account.proofs.whole.made_meter.Statement.{statement}
 use Rattle.account.proofs.whole.made_meter.Tie as tie
 
-pub made-meter-spec : {M : Type 1} → statement M
+pub made_meter_spec : {M : Type 1} → statement M
 unfolding made_meter
-made-meter-spec = tie.close (tie.spec (λ c. cc))
+made_meter_spec = tie.close (tie.spec (λ c. cc))

@@ -1,5 +1,5 @@
 -- What was gathered is the test over the places passed.
-use Rattle.common.proofs.Words.{◌≡◌, refl, ◌-◌, ◌≤◌, arith, add-one, length, take, needs}
+use Rattle.common.proofs.Words.{◌≡◌, refl, ◌-◌, ◌≤◌, arith, add-one, length, take, rules}
 use Rattle.lists.specs.Every.{every}
 use Rattle.lists.proofs.{Every.every_suc, Pad.length_of_mapped}
 use Rattle.meter.specs.Sharing.{blank}
@@ -8,35 +8,35 @@ use Rattle.account.specs.Whole.{whole_estimate}
 use Rattle.account.proofs.whole.whole_estimates.Statement.{statement}
 use Rattle.account.proofs.whole.whole_estimates.Tie as tie
 
-abbrev invariant-loop : tie.invariant-loop
+abbrev invariant-loop : tie.invariant-loop-i
 invariant-loop estimates count whole₀ i₀ whole i = (i ≤ count) × (whole ≡ every whole_estimate (take i estimates.periods))
 
-abbrev decreases-loop : tie.decreases-loop
+abbrev decreases-loop : tie.decreases-loop-i
 decreases-loop estimates count whole₀ i₀ whole i = count - i
 
-loop-again : tie.Need-loop-preserved invariant-loop decreases-loop
+loop-again : tie.Need-loop-i-preserved invariant-loop decreases-loop
 loop-again c =
-    let l : tie.At-loop invariant-loop decreases-loop = search in
-    let places = l.before.args.t1.periods in
-    let long : length places ≡ most_misses = search (length_of_mapped, needs) in
-    let next = every_suc whole_estimate places l.loop.i blank (omega arith) in
-    (omega arith, rw (add-one l.loop.i, next) (cc))
+    let l : tie.At-loop-i invariant-loop decreases-loop = search in
+    let places = l.before.args.estimates.periods in
+    let long : length places ≡ most_misses = search (length_of_mapped, rules) in
+    let next = every_suc whole_estimate places l.loop-i.i blank (omega arith) in
+    (omega arith, rw (add-one l.loop-i.i, next) (cc))
 
 returns : tie.Need-returns invariant-loop decreases-loop
 returns c =
-    let l : tie.At-loop invariant-loop decreases-loop = search in
-    let done : l.loop.i ≡ l.before.args.t1.count = omega arith in
-    rw done at l.loop.inv.1
+    let l : tie.At-loop-i invariant-loop decreases-loop = search in
+    let done : l.loop-i.i ≡ l.before.args.estimates.count = omega arith in
+    rw done at l.loop-i.invariant.1
 
-pub whole-estimates-spec : {M : Type 1} → statement M
-whole-estimates-spec =
+pub whole_estimates_spec : {M : Type 1} → statement M
+whole_estimates_spec =
     tie.close
     (tie.spec invariant-loop decreases-loop
-    (λ c. (omega arith, refl))  -- loop-holds
-    (λ c. search needs)  -- mul-estimate
-    (λ c. search needs)  -- element-copy-out-estimate
-    (λ c κs. tt)  -- whole-estimate-requires
-    (λ c. omega arith)  -- add-i
-    (λ c. omega arith)  -- loop-less
+    (λ c. (omega arith, refl))  -- loop-i-init
+    (λ c. search rules)  -- offset_bounds-estimates-i
+    (λ c. search rules)  -- bounds-estimates-i
+    (λ c κs. tt)  -- whole_estimate-whole-requires
+    (λ c. omega arith)  -- overflow_add-i
+    (λ c. omega arith)  -- loop-i-smaller
     loop-again
     returns)

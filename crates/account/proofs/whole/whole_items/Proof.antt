@@ -1,5 +1,5 @@
 -- What was gathered is the test over the places passed.
-use Rattle.common.proofs.Words.{◌≡◌, refl, ◌-◌, ◌≤◌, arith, add-one, length, take, needs}
+use Rattle.common.proofs.Words.{◌≡◌, refl, ◌-◌, ◌≤◌, arith, add-one, length, take, rules}
 use Rattle.lists.specs.Every.{every}
 use Rattle.lists.proofs.{Every.every_suc, Pad.length_of_mapped}
 use Rattle.ledger.specs.{Posting.blank, Limits.capacity}
@@ -7,35 +7,35 @@ use Rattle.account.specs.Whole.{whole_item}
 use Rattle.account.proofs.whole.whole_items.Statement.{statement}
 use Rattle.account.proofs.whole.whole_items.Tie as tie
 
-abbrev invariant-loop : tie.invariant-loop
+abbrev invariant-loop : tie.invariant-loop-i
 invariant-loop latest ledger count whole₀ i₀ whole i = (i ≤ count) × (whole ≡ every (whole_item latest) (take i ledger.items))
 
-abbrev decreases-loop : tie.decreases-loop
+abbrev decreases-loop : tie.decreases-loop-i
 decreases-loop latest ledger count whole₀ i₀ whole i = count - i
 
-loop-again : tie.Need-loop-preserved invariant-loop decreases-loop
+loop-again : tie.Need-loop-i-preserved invariant-loop decreases-loop
 loop-again c =
-    let l : tie.At-loop invariant-loop decreases-loop = search in
-    let places = l.before.args.t2.items in
-    let long : length places ≡ capacity = search (length_of_mapped, needs) in
-    let next = every_suc (whole_item l.before.args.latest) places l.loop.i blank (omega arith) in
-    (omega arith, rw (add-one l.loop.i, next) (cc))
+    let l : tie.At-loop-i invariant-loop decreases-loop = search in
+    let places = l.before.args.ledger.items in
+    let long : length places ≡ capacity = search (length_of_mapped, rules) in
+    let next = every_suc (whole_item l.before.args.latest) places l.loop-i.i blank (omega arith) in
+    (omega arith, rw (add-one l.loop-i.i, next) (cc))
 
 returns : tie.Need-returns invariant-loop decreases-loop
 returns c =
-    let l : tie.At-loop invariant-loop decreases-loop = search in
-    let done : l.loop.i ≡ l.before.args.t2.count = omega arith in
-    rw done at l.loop.inv.1
+    let l : tie.At-loop-i invariant-loop decreases-loop = search in
+    let done : l.loop-i.i ≡ l.before.args.ledger.count = omega arith in
+    rw done at l.loop-i.invariant.1
 
-pub whole-items-spec : {M : Type 1} → statement M
-whole-items-spec =
+pub whole_items_spec : {M : Type 1} → statement M
+whole_items_spec =
     tie.close
     (tie.spec invariant-loop decreases-loop
-    (λ c. (omega arith, refl))  -- loop-holds
-    (λ c. search needs)  -- mul-item
-    (λ c. search needs)  -- element-copy-out-item
-    (λ c κs. tt)  -- whole-item-requires
-    (λ c. omega arith)  -- add-i
-    (λ c. omega arith)  -- loop-less
+    (λ c. (omega arith, refl))  -- loop-i-init
+    (λ c. search rules)  -- offset_bounds-ledger-i
+    (λ c. search rules)  -- bounds-ledger-i
+    (λ c κs. tt)  -- whole_item-whole-requires
+    (λ c. omega arith)  -- overflow_add-i
+    (λ c. omega arith)  -- loop-i-smaller
     loop-again
     returns)
