@@ -1,4 +1,7 @@
 // Bills a household's file: its lines on standard input, a frame for each line on standard output.
-fn main() {
-    driver::serve(true);
+#![tactic(auto)]
+
+fn main(rt: HostRuntime) -> anyhow::Result<()> {
+    driver::serve(&rt, true)?;
+    Ok(())
 }

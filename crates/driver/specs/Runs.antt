@@ -1,6 +1,8 @@
--- Of what was read no contract can name the bytes: a list that some file `closed` has, and a state that some input leaves by it.
-use mathlib.Core.{Path.◌≡◌, List.List}
-use Rattle.std.specs.Prelude.{ℕ}
+-- Of what the system reads no contract can name the bytes: a list that some file `closed` has, and a state that some input leaves by it.
+-- Where a reader's bytes are known, and what a writer holds, they are named.
+use mathlib.Core.{Path.◌≡◌, Bool.Bool, Bool.cond, List.List, List.[], List.◌++◌}
+use Rattle.std.specs.Prelude.{ℕ, Option}
+use Rattle.std.specs.Io.KnownBytes.{Appends}
 use Rattle.text.specs.Pieces.{Finished}
 use Rattle.closedfile.specs.{declared.ClosedDays.ClosedDays, ClosedFile.list_in, ClosedFile.held}
 use Rattle.lines.specs.declared.State.{State}
@@ -12,3 +14,13 @@ pub record FromFile (list : ClosedDays) : Type 0 where
 pub record Served (s : State) : Type 0 where
   pub file : List ℕ
   pub finished : Finished (list_in file) s
+
+-- What is printed of a text: all of it or nothing.
+abbrev pub printed : Bool → List ℕ → List ℕ
+printed is_printing text = cond is_printing text []
+
+-- What an output has grown by is printed to a writer, which held `before` and then holds `after`.
+pub record Prints (is_printing : Bool) (output grown : List ℕ) (before after : Option (List ℕ)) : Type 0 where
+  pub more : List ℕ
+  pub grown_is : grown ≡ output ++ more
+  pub appended : Appends before after (printed is_printing more)

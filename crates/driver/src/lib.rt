@@ -1,192 +1,185 @@
 // Reads the file `closed`, then standard input to its end, and feeds it to the account in blocks of 64 KiB.
-ghost use Rattle.std.specs.Prelude.{◌≡◌, true, ◌++◌, ◌+◌, ◌≤◌};
-ghost use Rattle.text.specs.Pieces.{Follows, AtEnd, Behind, Finished};
-ghost use Rattle.closedfile.specs.ClosedFile.{longest_file};
+#![tactic(auto)]
+
+ghost use Rattle.std.specs.Prelude.{◌≡◌, ◌++◌, ◌+◌, ◌≤◌, take, IfOk, OnOk, IfSome};
+ghost use Rattle.std.specs.Io.KnownBytes.{Appends};
+ghost use Rattle.text.specs.Output.{bill};
+ghost use Rattle.text.specs.Pieces.{Follows, AtEnd, Behind, Finished, made};
+ghost use Rattle.closedfile.specs.ClosedFile.{longest_file, list_in, held};
 ghost use Rattle.feeding.specs.Reached.{Ready};
-ghost use Rattle.driver.specs.Runs.{FromFile, Served};
+ghost use Rattle.driver.specs.Runs.{FromFile, Served, printed, Prints};
 
 use answers::LONGEST_ANSWER;
 use closedfile::{ClosedDays, LONGEST_FILE, list_in};
-use libc::{ENOENT, STDIN_FILENO, STDOUT_FILENO};
 use lines::State;
+use std::io::{ErrorKind, Input, Read, Write};
+use std::rt::Files;
+use std::{fs, io};
+use thiserror::Error;
 
-// Where a run stands: sound until a read or a write fails.
-#[derive(Drop)]
-pub struct Run {
-    pub state: State,
-    pub sound: bool,
+// What could not be read or written, and why.
+#[derive(Debug, Drop, Error)]
+pub enum Failure {
+    #[error("closed: {0}")]
+    Closed(io::Error),
+    #[error("standard input: {0}")]
+    Input(io::Error),
+    #[error("standard output: {0}")]
+    Output(io::Error),
 }
 
-// The list of closed days; not sound where the file `closed` is there and can't be opened or read.
-#[derive(Drop)]
-pub struct Listed {
-    pub list: ClosedDays,
-    pub sound: bool,
-}
-
-// The first bytes of a file, as many as there are or as tell its list; not sound where a read failed.
-#[derive(Drop)]
+// The first bytes of a file, as many as there are or as tell its list.
+#[derive(Clone, Copy)]
 pub struct Front {
     pub bytes: [u8; FRONT_LENGTH],
     pub length: usize,
-    pub sound: bool,
 }
 
 // One byte more than the longest file of the form has.
 const FRONT_LENGTH: usize = LONGEST_FILE + 1;
 
-// Feeds all of standard input by the list of the file `closed`. Where that can't be read, nothing is fed.
-pub fn serve(is_printing: bool) -> Run
-    ensures { result.sound ≡ true → Served result.state }
+// What is read and written at a time.
+const BLOCK_LENGTH: usize = 65_536;
+
+// Feeds all of standard input by the list of the file `closed`, to the state that it leaves. Where that file can't be read, nothing is fed.
+pub fn serve<R: Files + Input + Print>(rt: &R, is_printing: bool) -> Result<State, Failure>
+    ensures { IfOk result (λ state. Served state) }
 {
-    let listed = read_closed();
-    if !listed.sound {
-        return Run {
-            state: State::new(),
-            sound: false,
-        };
-    }
-    let list = listed.list;
+    let list = read_closed(rt)?;
     let days = list.days;
     let count = list.count;
-    feed_input(&days[..count], is_printing)
+    let mut input = rt.reader();
+    let mut output = io::writer(rt);
+    feed_input(&mut input, &mut output, &days[..count], is_printing)
 }
 
 // No such file is an empty list.
-fn read_closed() -> Listed
-    ensures { FromFile result.list }
+fn read_closed<R: Files>(rt: &R) -> Result<ClosedDays, Failure>
+    ensures { IfOk result (λ list. FromFile list) }
 {
-    let fd = os::open_read(b"closed");
-    if fd < 0 {
-        let is_missing = os::errno() == ENOENT;
-        if !is_missing {
-            os::fail(b"closed");
+    match fs::open(rt, "closed") {
+        Ok(mut file) => list_of(&mut file),
+        Err(e) if e.kind() == ErrorKind::NotFound => {
+            let nothing = [0u8; 0];
+            Ok(list_in(&nothing))
         }
-        let nothing = [0u8; 0];
-        return Listed {
-            list: list_in(&nothing),
-            sound: is_missing,
-        };
-    }
-    let front = read_front(fd);
-    libc::close(fd);
-    let bytes = front.bytes;
-    let length = front.length;
-    Listed {
-        list: list_in(&bytes[..length]),
-        sound: front.sound,
+        Err(e) => Err(Failure::Closed(e)),
     }
 }
 
-fn read_front(fd: i32) -> Front
-    ensures { result.length ≤ longest_file + 1 }
+// The list that an open file has.
+fn list_of<F: Read>(file: &mut F) -> Result<ClosedDays, Failure>
+    ensures from_file { IfOk result (λ list. FromFile list) }
+    ensures known { IfOk result (λ list. IfSome (F.remaining file.old) (λ bytes. list ≡ held (list_in bytes))) }
+{
+    let front = read_front(file)?;
+    let bytes = front.bytes;
+    let length = front.length;
+    Ok(list_in(&bytes[..length]))
+}
+
+fn read_front<F: Read>(file: &mut F) -> Result<Front, Failure>
+    ensures length { IfOk result (λ front. front.length ≤ longest_file + 1) }
+    ensures known { IfOk result (λ front. IfSome (F.remaining file.old)
+        (λ bytes. take front.length front.bytes ≡ take (longest_file + 1) bytes)) }
 {
     let mut bytes = [0u8; FRONT_LENGTH];
     let mut length: usize = 0;
     while length < FRONT_LENGTH {
-        let got = libc::read(fd, &mut bytes[length..]);
-        if got < 0 {
-            os::fail(b"closed");
-            return Front {
-                bytes,
-                length,
-                sound: false,
-            };
-        }
-        let count = io::count(got, &bytes[length..]);
+        let count = match file.read(&mut bytes[length..]) {
+            Ok(count) => count,
+            Err(e) => return Err(Failure::Closed(e)),
+        };
         if count == 0 {
-            break;
+            return Ok(Front { bytes, length });
         }
         length += count;
     }
-    Front {
-        bytes,
-        length,
-        sound: true,
-    }
+    Ok(Front { bytes, length })
 }
 
-// Feeds all of standard input. Where nothing failed, the account is the one that all lines read leave, and no line is left half read.
+// Feeds all of an input, to the account that all its lines leave: no line is left half read. What is printed is what `bill` writes for it.
 // What a failed read leaves half read is not taken for a line.
-fn feed_input(holidays: &[u16], is_printing: bool) -> Run
-    ensures { result.sound ≡ true → Finished holidays.now result.state }
+pub fn feed_input<R: Read, W: Write>(
+    input: &mut R,
+    output: &mut W,
+    holidays: &[u16],
+    is_printing: bool,
+) -> Result<State, Failure>
+    ensures finished { IfOk result (λ state. Finished holidays.now state) }
+    ensures at_end { IfOk result (λ state. IfSome (R.remaining input.old) (λ bytes. AtEnd holidays.now bytes state)) }
+    ensures billed { OnOk result (IfSome (R.remaining input.old) (λ bytes.
+        Appends (W.contents output.old) (W.contents output.new) (printed is_printing (bill holidays.now bytes)))) }
 {
     let mut state = State::new();
-    let mut block = io::large_buffer();
+    let mut block = [0u8; BLOCK_LENGTH];
     // a proved loop has to end, and nothing says that the input does: no run uses up these turns
-    let mut turns = u64::MAX;
-    while turns > 0 {
-        turns -= 1;
-        let got = libc::read(STDIN_FILENO, &mut block);
-        if got < 0 {
-            os::fail(b"standard input");
-            return Run {
-                state,
-                sound: false,
-            };
+    for _ in 0..u64::MAX {
+        let count = match input.read(&mut block) {
+            Ok(count) => count,
+            Err(e) => return Err(Failure::Input(e)),
+        };
+        if count == 0 {
+            return end_input(output, state, holidays, is_printing);
         }
-        if got == 0 {
-            return end_input(state, holidays, is_printing);
-        }
-        let count = io::count(got, &block);
-        let fed = feed_block(state, holidays, &block[..count], is_printing);
-        if !fed.sound {
-            return fed;
-        }
-        state = fed.state;
+        state = feed_block(output, state, holidays, &block[..count], is_printing)?;
     }
-    Run {
-        state,
-        sound: false,
-    }
+    Err(Failure::Input(io::Error::other("it has no end")))
 }
 
 // The end of the input.
-fn end_input(state: State, holidays: &[u16], is_printing: bool) -> Run
+fn end_input<W: Write>(
+    output: &mut W,
+    state: State,
+    holidays: &[u16],
+    is_printing: bool,
+) -> Result<State, Failure>
     requires { Behind holidays.now state }
-    ensures { (b : Behind holidays.now state) → AtEnd holidays.now b.seen result.state }
+    ensures at_end { IfOk result (λ end. (b : Behind holidays.now state) → AtEnd holidays.now b.seen end) }
+    ensures prints { OnOk result ((b : Behind holidays.now state) → Prints is_printing (made holidays.now b.seen)
+        (bill holidays.now b.seen) (W.contents output.old) (W.contents output.new)) }
 {
     let mut out = [0u8; LONGEST_ANSWER];
     let fed = feeding::finish(state, holidays, &mut out);
     let written = fed.written;
-    let sound = print(&out[..written], is_printing);
-    let state = fed.state;
-    Run { state, sound }
+    print(output, &out[..written], is_printing)?;
+    Ok(fed.state)
 }
 
 // Feeds a block from its start to its end.
-fn feed_block(state: State, holidays: &[u16], block: &[u8], is_printing: bool) -> Run
+fn feed_block<W: Write>(
+    output: &mut W,
+    state: State,
+    holidays: &[u16],
+    block: &[u8],
+    is_printing: bool,
+) -> Result<State, Failure>
     requires { Behind holidays.now state }
-    ensures ready { Ready holidays.now result.state }
-    ensures follows { result.sound ≡ true → (b : Behind holidays.now state)
-        → Follows holidays.now (b.seen ++ block.now) result.state }
+    ensures ready { IfOk result (λ next. Ready holidays.now next) }
+    ensures follows { IfOk result (λ next. (b : Behind holidays.now state)
+        → Follows holidays.now (b.seen ++ block.now) next) }
+    ensures prints { OnOk result ((b : Behind holidays.now state) → Prints is_printing (made holidays.now b.seen)
+        (made holidays.now (b.seen ++ block.now)) (W.contents output.old) (W.contents output.new)) }
 {
     let mut state = state;
-    let mut out = io::large_buffer();
+    let mut out = [0u8; BLOCK_LENGTH];
     let mut at: usize = 0;
     while at < block.len() {
         let fed = feeding::feed(state, holidays, &block[at..], &mut out);
         let written = fed.written;
         state = fed.state;
         at += fed.taken;
-        if !print(&out[..written], is_printing) {
-            return Run {
-                state,
-                sound: false,
-            };
-        }
+        print(output, &out[..written], is_printing)?;
     }
-    Run { state, sound: true }
+    Ok(state)
 }
 
-// Writes what is to be printed, and says where that fails.
-fn print(text: &[u8], is_printing: bool) -> bool {
+// Writes what is to be printed.
+fn print<W: Write>(output: &mut W, text: &[u8], is_printing: bool) -> Result<(), Failure>
+    ensures { OnOk result (Appends (W.contents output.old) (W.contents output.new) (printed is_printing text.now)) }
+{
     if !is_printing {
-        return true;
+        return Ok(());
     }
-    let is_written = io::write_all(STDOUT_FILENO, text);
-    if !is_written {
-        os::fail(b"standard output");
-    }
-    is_written
+    output.write_all(text).map_err(Failure::Output)
 }

@@ -10,8 +10,8 @@ use Rattle.closing.specs.Closing.{net_of}
 use Rattle.figures.specs.Starred.{Starred}
 
 pub starred : Starred
-unfolding average_price price_change steps adjusted_unit band_of full_month basic_charge band_volume price_in price_of span advance shared_pool final_volumes
-    due_day body interest_on net_of
+unfolding average_price price_change steps adjusted_unit band_of full_month basic_charge band_volume price_in price_of span advance
+    shared_pool final_volumes due_day body interest_on net_of
 starred =
     record {
       average = refl;

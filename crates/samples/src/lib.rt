@@ -1,9 +1,11 @@
 // Accounts to hand in: whole ones, and ones with a field made wrong; and the line that says how one is answered.
+#![tactic(auto)]
+
 use account::{Account, Outcome};
 use intake::Status;
 use ledger::{Item, Kind, Ledger};
-use libc::STDOUT_FILENO;
 use meter::{Estimate, Estimates, Meter};
+use std::io;
 use tariff::Fuel;
 
 pub const FUEL: Fuel = Fuel {
@@ -45,29 +47,28 @@ const INTEREST: Item = Item {
 };
 
 // The line of a payment of 1 yen on day 100, with no day closed.
-pub fn show(account: Account, name: &[u8]) {
+pub fn show(rt: &impl Print, account: Account, name: &[u8]) -> io::Result<()> {
     let none = [0u16; 0];
-    line(account.pay(&none, 100, 1), name);
+    line(rt, account.pay(&none, 100, 1), name)
 }
 
 // A call's number, that of such a payment on the account that it handed back, and what was handed in.
-pub fn line(outcome: Outcome, name: &[u8]) {
+pub fn line(rt: &impl Print, outcome: Outcome, name: &[u8]) -> io::Result<()> {
     let none = [0u16; 0];
     let back = outcome.account;
     let again = back.pay(&none, 100, 1);
-    number(outcome.answer.number);
-    number(again.answer.number);
-    text(name);
-    text(b"\n");
+    number(rt, outcome.answer.number)?;
+    number(rt, again.answer.number)?;
+    text(rt, name)?;
+    text(rt, b"\n")
 }
 
-fn number(n: u8) {
-    io::print_decimal(STDOUT_FILENO, n as u64);
-    text(b" ");
+fn number(rt: &impl Print, n: u8) -> io::Result<()> {
+    print!(rt; "{n} ")
 }
 
-pub fn text(line: &[u8]) {
-    io::write_all(STDOUT_FILENO, line);
+pub fn text(rt: &impl Print, line: &[u8]) -> io::Result<()> {
+    rt.write_all(line)
 }
 
 pub fn with_status(status: Status) -> Account {

@@ -1,8 +1,10 @@
-// Numbers 41 and 14: accounts with one field made wrong, and whole ones beside them, by a list of closed days that is one and by one that is not.
-// Document 01, "The account and its calls"; document 02, request a.
+// Numbers 41 and 14: accounts with one field made wrong, and whole ones beside them, by a list of closed days that is one and by one that
+// is not.
 //
 // A line has the number of a call, the number of a payment on the account that it handed back, and what was handed in.
 // The call is a payment of 1 yen on day 100 where nothing else is named.
+#![tactic(auto)]
+
 use account::Account;
 use intake::Status;
 use samples::{
@@ -10,182 +12,221 @@ use samples::{
     with_charge, with_credit, with_days, with_dial, with_fuel, with_held, with_interest,
     with_item_days, with_latest, with_pool, with_previous, with_price, with_status, with_volume,
 };
+use std::io;
 
-fn main() {
-    statuses();
-    meters();
-    estimate_days();
-    estimate_fuels();
-    estimate_amounts();
-    estimate_counts();
-    item_amounts();
-    item_days();
-    item_counts();
-    balances();
-    calls();
-    lists();
+fn main(rt: HostRuntime) -> io::Result<()> {
+    statuses(&rt)?;
+    meters(&rt)?;
+    estimate_days(&rt)?;
+    estimate_fuels(&rt)?;
+    estimate_amounts(&rt)?;
+    estimate_counts(&rt)?;
+    item_amounts(&rt)?;
+    item_days(&rt)?;
+    item_counts(&rt)?;
+    balances(&rt)?;
+    calls(&rt)?;
+    lists(&rt)
 }
 
-fn statuses() {
-    show(Account::new(), b"new");
-    show(supplied(), b"supplied");
-    show(with_status(Status::Stopped { stop: 90 }), b"stopped");
-    show(with_held(Status::Cancelled, 0), b"cancelled");
-    show(with_held(Status::Cancelled, 1), b"cancelled, 1 held");
+fn statuses(rt: &impl Print) -> io::Result<()> {
+    show(rt, Account::new(), b"new")?;
+    show(rt, supplied(), b"supplied")?;
+    show(rt, with_status(Status::Stopped { stop: 90 }), b"stopped")?;
+    show(rt, with_held(Status::Cancelled, 0), b"cancelled")?;
+    show(rt, with_held(Status::Cancelled, 1), b"cancelled, 1 held")?;
     show(
+        rt,
         with_status(Status::Supplied { start: 101 }),
         b"period start 101, latest day 100",
-    );
+    )?;
     show(
+        rt,
         with_status(Status::Supplied { start: 102 }),
         b"period start 102, latest day 100",
-    );
+    )?;
     show(
+        rt,
         with_status(Status::Stopped { stop: 100 }),
         b"stop day 100, latest day 100",
-    );
+    )?;
     show(
+        rt,
         with_status(Status::Stopped { stop: 101 }),
         b"stop day 101, latest day 100",
-    );
+    )
 }
 
-fn meters() {
-    show(with_latest(36_094), b"latest day 36094");
-    show(with_latest(36_095), b"latest day 36095");
-    show(with_dial(0, 0), b"0 digits");
-    show(with_dial(3, 130), b"3 digits");
-    show(with_dial(5, 130), b"5 digits");
-    show(with_dial(6, 130), b"6 digits");
-    show(with_dial(4, 9_999), b"dial 9999 of 4 digits");
-    show(with_dial(4, 10_000), b"dial 10000 of 4 digits");
-    show(with_dial(5, 99_999), b"dial 99999 of 5 digits");
-    show(with_dial(5, 100_000), b"dial 100000 of 5 digits");
-    show(with_pool(99_999), b"pool 99999");
-    show(with_pool(100_000), b"pool 100000");
-    show(with_previous(99_999), b"previous volume 99999");
-    show(with_previous(100_000), b"previous volume 100000");
+fn meters(rt: &impl Print) -> io::Result<()> {
+    show(rt, with_latest(36_094), b"latest day 36094")?;
+    show(rt, with_latest(36_095), b"latest day 36095")?;
+    show(rt, with_dial(0, 0), b"0 digits")?;
+    show(rt, with_dial(3, 130), b"3 digits")?;
+    show(rt, with_dial(5, 130), b"5 digits")?;
+    show(rt, with_dial(6, 130), b"6 digits")?;
+    show(rt, with_dial(4, 9_999), b"dial 9999 of 4 digits")?;
+    show(rt, with_dial(4, 10_000), b"dial 10000 of 4 digits")?;
+    show(rt, with_dial(5, 99_999), b"dial 99999 of 5 digits")?;
+    show(rt, with_dial(5, 100_000), b"dial 100000 of 5 digits")?;
+    show(rt, with_pool(99_999), b"pool 99999")?;
+    show(rt, with_pool(100_000), b"pool 100000")?;
+    show(rt, with_previous(99_999), b"previous volume 99999")?;
+    show(rt, with_previous(100_000), b"previous volume 100000")
 }
 
-fn estimate_days() {
-    show(with_days(0), b"estimate of 0 days");
-    show(with_days(1), b"estimate of 1 day");
-    show(with_days(36_495), b"estimate of 36495 days");
-    show(with_days(36_496), b"estimate of 36496 days");
+fn estimate_days(rt: &impl Print) -> io::Result<()> {
+    show(rt, with_days(0), b"estimate of 0 days")?;
+    show(rt, with_days(1), b"estimate of 1 day")?;
+    show(rt, with_days(36_495), b"estimate of 36495 days")?;
+    show(rt, with_days(36_496), b"estimate of 36496 days")
 }
 
-fn estimate_fuels() {
-    show(with_fuel(300_000, 300_000), b"estimate at fuel 300000");
-    show(with_fuel(300_010, 75_000), b"estimate at LNG 300010");
-    show(with_fuel(15, 75_000), b"estimate at LNG 15");
-    show(with_fuel(83_130, 300_010), b"estimate at propane 300010");
-    show(with_fuel(83_130, 15), b"estimate at propane 15");
-}
-
-fn estimate_amounts() {
-    show(with_volume(99_999), b"estimate of 99999 m3");
-    show(with_volume(100_000), b"estimate of 100000 m3");
-    show(with_charge(100_000_000), b"estimate charged 100000000");
-    show(with_charge(100_000_001), b"estimate charged 100000001");
-}
-
-fn estimate_counts() {
-    show(many_estimates(6), b"6 estimates");
-    show(many_estimates(7), b"7 estimates");
+fn estimate_fuels(rt: &impl Print) -> io::Result<()> {
+    show(rt, with_fuel(300_000, 300_000), b"estimate at fuel 300000")?;
+    show(rt, with_fuel(300_010, 75_000), b"estimate at LNG 300010")?;
+    show(rt, with_fuel(15, 75_000), b"estimate at LNG 15")?;
     show(
+        rt,
+        with_fuel(83_130, 300_010),
+        b"estimate at propane 300010",
+    )?;
+    show(rt, with_fuel(83_130, 15), b"estimate at propane 15")
+}
+
+fn estimate_amounts(rt: &impl Print) -> io::Result<()> {
+    show(rt, with_volume(99_999), b"estimate of 99999 m3")?;
+    show(rt, with_volume(100_000), b"estimate of 100000 m3")?;
+    show(rt, with_charge(100_000_000), b"estimate charged 100000000")?;
+    show(rt, with_charge(100_000_001), b"estimate charged 100000001")
+}
+
+fn estimate_counts(rt: &impl Print) -> io::Result<()> {
+    show(rt, many_estimates(6), b"6 estimates")?;
+    show(rt, many_estimates(7), b"7 estimates")?;
+    show(
+        rt,
         counted_estimates(2),
         b"2 estimates, wrong in the third place",
-    );
+    )?;
     show(
+        rt,
         counted_estimates(3),
         b"3 estimates, wrong in the third place",
-    );
+    )
 }
 
-fn item_amounts() {
-    show(with_price(6_650, 0), b"item with 0 unpaid");
-    show(with_price(6_650, 1), b"item with 1 unpaid");
-    show(with_price(6_650, 6_650), b"item of 6650 with 6650 unpaid");
-    show(with_price(6_650, 6_651), b"item of 6650 with 6651 unpaid");
-    show(with_price(1_000_000_000, 1), b"price item of 1000000000");
-    show(with_price(1_000_000_001, 1), b"price item of 1000000001");
+fn item_amounts(rt: &impl Print) -> io::Result<()> {
+    show(rt, with_price(6_650, 0), b"item with 0 unpaid")?;
+    show(rt, with_price(6_650, 1), b"item with 1 unpaid")?;
     show(
+        rt,
+        with_price(6_650, 6_650),
+        b"item of 6650 with 6650 unpaid",
+    )?;
+    show(
+        rt,
+        with_price(6_650, 6_651),
+        b"item of 6650 with 6651 unpaid",
+    )?;
+    show(
+        rt,
+        with_price(1_000_000_000, 1),
+        b"price item of 1000000000",
+    )?;
+    show(
+        rt,
+        with_price(1_000_000_001, 1),
+        b"price item of 1000000001",
+    )?;
+    show(
+        rt,
         with_interest(1_000_000_000_000),
         b"interest item of 1000000000000",
-    );
+    )?;
     show(
+        rt,
         with_interest(1_000_000_000_001),
         b"interest item of 1000000000001",
-    );
+    )
 }
 
-fn item_days() {
+fn item_days(rt: &impl Print) -> io::Result<()> {
     show(
+        rt,
         with_item_days(100, 130),
         b"obligation day 100, latest day 100",
-    );
+    )?;
     show(
+        rt,
         with_item_days(101, 131),
         b"obligation day 101, latest day 100",
-    );
-    show(with_item_days(59, 36_524), b"due day 36524");
-    show(with_item_days(59, 36_525), b"due day 36525");
+    )?;
+    show(rt, with_item_days(59, 36_524), b"due day 36524")?;
+    show(rt, with_item_days(59, 36_525), b"due day 36525")
 }
 
-fn item_counts() {
-    show(with_credit(72, 0), b"72 items");
-    show(with_credit(73, 0), b"73 items");
-    show(counted_items(71), b"71 items, wrong in the 72nd place");
-    show(counted_items(72), b"72 items, wrong in the 72nd place");
+fn item_counts(rt: &impl Print) -> io::Result<()> {
+    show(rt, with_credit(72, 0), b"72 items")?;
+    show(rt, with_credit(73, 0), b"73 items")?;
+    show(rt, counted_items(71), b"71 items, wrong in the 72nd place")?;
+    show(rt, counted_items(72), b"72 items, wrong in the 72nd place")
 }
 
-fn balances() {
+fn balances(rt: &impl Print) -> io::Result<()> {
     let period = Status::Supplied { start: 90 };
-    show(with_held(period, 1_000_000_000_000), b"1000000000000 held");
-    show(with_held(period, 1_000_000_000_001), b"1000000000001 held");
-    show(with_credit(0, 1), b"credit 1, no item open");
-    show(with_credit(1, 1), b"credit 1, an item open");
-    show(with_credit(0, 999_999_999), b"credit 999999999");
-    show(with_credit(0, 1_000_000_000), b"credit 1000000000");
+    show(
+        rt,
+        with_held(period, 1_000_000_000_000),
+        b"1000000000000 held",
+    )?;
+    show(
+        rt,
+        with_held(period, 1_000_000_000_001),
+        b"1000000000001 held",
+    )?;
+    show(rt, with_credit(0, 1), b"credit 1, no item open")?;
+    show(rt, with_credit(1, 1), b"credit 1, an item open")?;
+    show(rt, with_credit(0, 999_999_999), b"credit 999999999")?;
+    show(rt, with_credit(0, 1_000_000_000), b"credit 1000000000")
 }
 
 // Each call on a whole account that allows it, then on one account that is not whole.
-fn calls() {
+fn calls(rt: &impl Print) -> io::Result<()> {
     let none = [0u16; 0];
-    text(b"a new account\n");
-    other_calls(Account::new(), &none);
-    text(b"a stopped account\n");
-    other_calls(with_status(Status::Stopped { stop: 90 }), &none);
-    text(b"a supplied account\n");
-    supplied_calls(supplied(), &none);
-    text(b"a supplied account with pool 100000\n");
-    supplied_calls(with_pool(100_000), &none);
-    other_calls(with_pool(100_000), &none);
+    text(rt, b"a new account\n")?;
+    other_calls(rt, Account::new(), &none)?;
+    text(rt, b"a stopped account\n")?;
+    other_calls(rt, with_status(Status::Stopped { stop: 90 }), &none)?;
+    text(rt, b"a supplied account\n")?;
+    supplied_calls(rt, supplied(), &none)?;
+    text(rt, b"a supplied account with pool 100000\n")?;
+    supplied_calls(rt, with_pool(100_000), &none)?;
+    other_calls(rt, with_pool(100_000), &none)
 }
 
 // 14 comes before 41 and before 1, and leaves the account as it was: what a payment by no list then meets.
-fn lists() {
+fn lists(rt: &impl Print) -> io::Result<()> {
     let equal = [5u16, 5];
-    text(b"two equal days, a supplied account\n");
-    supplied_calls(supplied(), &equal);
-    other_calls(supplied(), &equal);
-    text(b"two equal days, a supplied account with pool 100000\n");
-    supplied_calls(with_pool(100_000), &equal);
-    other_calls(with_pool(100_000), &equal);
+    text(rt, b"two equal days, a supplied account\n")?;
+    supplied_calls(rt, supplied(), &equal)?;
+    other_calls(rt, supplied(), &equal)?;
+    text(rt, b"two equal days, a supplied account with pool 100000\n")?;
+    supplied_calls(rt, with_pool(100_000), &equal)?;
+    other_calls(rt, with_pool(100_000), &equal)
 }
 
-fn other_calls(account: Account, holidays: &[u16]) {
-    line(account.begin_supply(holidays, 100, 0, 4), b"01");
-    line(account.reconnect(holidays, 100, 0, 4), b"07");
-    line(account.cancel_stopped(holidays, 100), b"0a");
+fn other_calls(rt: &impl Print, account: Account, holidays: &[u16]) -> io::Result<()> {
+    line(rt, account.begin_supply(holidays, 100, 0, 4), b"01")?;
+    line(rt, account.reconnect(holidays, 100, 0, 4), b"07")?;
+    line(rt, account.cancel_stopped(holidays, 100), b"0a")
 }
 
-fn supplied_calls(account: Account, holidays: &[u16]) {
-    line(account.read_meter(holidays, 100, 140, FUEL), b"02");
-    line(account.miss_reading(holidays, 100, FUEL), b"03");
-    line(account.note_absence(holidays, 100, FUEL), b"04");
-    line(account.exchange_meter(holidays, 100, 140, 0, 4), b"05");
-    line(account.disconnect(holidays, 100, 140, FUEL), b"06");
-    line(account.cancel(holidays, 100, 140, FUEL), b"08");
-    line(account.pay(holidays, 100, 1), b"09");
+fn supplied_calls(rt: &impl Print, account: Account, holidays: &[u16]) -> io::Result<()> {
+    line(rt, account.read_meter(holidays, 100, 140, FUEL), b"02")?;
+    line(rt, account.miss_reading(holidays, 100, FUEL), b"03")?;
+    line(rt, account.note_absence(holidays, 100, FUEL), b"04")?;
+    line(rt, account.exchange_meter(holidays, 100, 140, 0, 4), b"05")?;
+    line(rt, account.disconnect(holidays, 100, 140, FUEL), b"06")?;
+    line(rt, account.cancel(holidays, 100, 140, FUEL), b"08")?;
+    line(rt, account.pay(holidays, 100, 1), b"09")
 }

@@ -1,12 +1,15 @@
-// Number 41: new accounts with one field, or one place of an array, not as made. Document 01, "The account and its calls".
+// Number 41: new accounts with one field, or one place of an array, not as made.
 //
 // A line is as in `spoiled`.
+#![tactic(auto)]
+
 ghost use Rattle.std.specs.Prelude.{◌<◌};
 
 use account::Account;
 use ledger::{Item, Kind};
 use meter::{Estimate, Meter};
 use samples::show;
+use std::io;
 use tariff::Fuel;
 
 // What a place that holds nothing holds.
@@ -26,46 +29,51 @@ const NO_ITEM: Item = Item {
     kind: Kind::Interest,
 };
 
-fn main() {
-    meters();
-    lists();
-    blank_places();
-    periods();
-    items();
+fn main(rt: HostRuntime) -> io::Result<()> {
+    meters(&rt)?;
+    lists(&rt)?;
+    blank_places(&rt)?;
+    periods(&rt)?;
+    items(&rt)
 }
 
-fn meters() {
+fn meters(rt: &impl Print) -> io::Result<()> {
     let account = Account::new();
     let meter = account.meter;
     show(
+        rt,
         Account {
             latest: 1,
             ..account
         },
         b"new, latest day 1",
-    );
+    )?;
     show(
+        rt,
         Account {
             meter: Meter { digits: 4, ..meter },
             ..account
         },
         b"new, 4 digits",
-    );
+    )?;
     show(
+        rt,
         Account {
             meter: Meter { dial: 1, ..meter },
             ..account
         },
         b"new, dial 1",
-    );
+    )?;
     show(
+        rt,
         Account {
             meter: Meter { pool: 1, ..meter },
             ..account
         },
         b"new, pool 1",
-    );
+    )?;
     show(
+        rt,
         Account {
             meter: Meter {
                 previous: 1,
@@ -74,14 +82,14 @@ fn meters() {
             ..account
         },
         b"new, previous volume 1",
-    );
+    )
 }
 
-fn lists() {
-    show(with_count(), b"new, an estimate counted");
-    show(with_ledger(1, 0, 0), b"new, an item counted");
-    show(with_ledger(0, 1, 0), b"new, 1 held");
-    show(with_ledger(0, 0, 1), b"new, credit 1");
+fn lists(rt: &impl Print) -> io::Result<()> {
+    show(rt, with_count(), b"new, an estimate counted")?;
+    show(rt, with_ledger(1, 0, 0), b"new, an item counted")?;
+    show(rt, with_ledger(0, 1, 0), b"new, 1 held")?;
+    show(rt, with_ledger(0, 0, 1), b"new, credit 1")
 }
 
 fn with_count() -> Account {
@@ -106,27 +114,32 @@ fn with_ledger(count: usize, held: u64, credit: u64) -> Account {
     }
 }
 
-fn blank_places() {
+fn blank_places(rt: &impl Print) -> io::Result<()> {
     show(
+        rt,
         with_period(0, NO_PERIOD),
         b"new, the first place of the estimates blank",
-    );
+    )?;
     show(
+        rt,
         with_period(5, NO_PERIOD),
         b"new, the last place of the estimates blank",
-    );
+    )?;
     show(
+        rt,
         with_item(0, NO_ITEM),
         b"new, the first place of the items blank",
-    );
+    )?;
     show(
+        rt,
         with_item(71, NO_ITEM),
         b"new, the last place of the items blank",
-    );
+    )
 }
 
-fn periods() {
+fn periods(rt: &impl Print) -> io::Result<()> {
     show(
+        rt,
         with_period(
             0,
             Estimate {
@@ -135,8 +148,9 @@ fn periods() {
             },
         ),
         b"new, absence in the first place of the estimates",
-    );
+    )?;
     show(
+        rt,
         with_period(
             1,
             Estimate {
@@ -145,8 +159,9 @@ fn periods() {
             },
         ),
         b"new, 1 day in the second place of the estimates",
-    );
+    )?;
     show(
+        rt,
         with_period(
             2,
             Estimate {
@@ -158,8 +173,9 @@ fn periods() {
             },
         ),
         b"new, LNG 10 in the third place of the estimates",
-    );
+    )?;
     show(
+        rt,
         with_period(
             3,
             Estimate {
@@ -171,8 +187,9 @@ fn periods() {
             },
         ),
         b"new, propane 10 in the fourth place of the estimates",
-    );
+    )?;
     show(
+        rt,
         with_period(
             4,
             Estimate {
@@ -181,8 +198,9 @@ fn periods() {
             },
         ),
         b"new, 1 m3 in the fifth place of the estimates",
-    );
+    )?;
     show(
+        rt,
         with_period(
             5,
             Estimate {
@@ -191,11 +209,12 @@ fn periods() {
             },
         ),
         b"new, 1 yen charged in the last place of the estimates",
-    );
+    )
 }
 
-fn items() {
+fn items(rt: &impl Print) -> io::Result<()> {
     show(
+        rt,
         with_item(
             0,
             Item {
@@ -204,8 +223,9 @@ fn items() {
             },
         ),
         b"new, a price in the first place of the items",
-    );
+    )?;
     show(
+        rt,
         with_item(
             1,
             Item {
@@ -214,8 +234,9 @@ fn items() {
             },
         ),
         b"new, amount 1 in the second place of the items",
-    );
+    )?;
     show(
+        rt,
         with_item(
             35,
             Item {
@@ -224,8 +245,9 @@ fn items() {
             },
         ),
         b"new, 1 unpaid in the 36th place of the items",
-    );
+    )?;
     show(
+        rt,
         with_item(
             70,
             Item {
@@ -234,11 +256,12 @@ fn items() {
             },
         ),
         b"new, obligation day 1 in the 71st place of the items",
-    );
+    )?;
     show(
+        rt,
         with_item(71, Item { due: 1, ..NO_ITEM }),
         b"new, due day 1 in the last place of the items",
-    );
+    )
 }
 
 // A new account with something in a place of an array that counts nothing.

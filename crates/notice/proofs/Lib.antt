@@ -1,0 +1,2 @@
+-- Laws of what is printed.
+pub mod Printed
