@@ -7,20 +7,26 @@
 
 # stale FILE
 stale() {
-    [ ! -e "$1" ] || [ -n "$(find crates crates.txt -type f -newer "$1" -print -quit)" ]
+    [ ! -e "$1" ] || [ -n "$(find crates crates.txt -type f -not -path '*/out/*' -newer "$1" -print -quit)" ]
 }
 
-# run_rt WORDS...: rt's words are shown only if it fails.
+# run_rt WORD CRATE: in the crate's folder. What rt says is shown only if it fails. A program that rt runs is fed nothing.
 run_rt() {
     if ! command -v rt >/dev/null 2>&1; then
         echo "rt, the command of the Rattle toolchain, is not on PATH: README.md, \"Tests\", says what is needed" >&2
         exit 1
     fi
-    echo "rt $*"
-    if ! said=$(rt "$@" 2>&1); then
+    echo "rt $1, of $2"
+    if ! said=$(cd "crates/$2" && rt "$1" 2>&1 </dev/null); then
         printf '%s\n' "$said" >&2
         exit 1
     fi
+}
+
+# put FILE PLACE: a copy, newer than what it was made from.
+put() {
+    mkdir -p "$(dirname "$2")"
+    cp "$1" "$2"
 }
 
 # there FILE COMMAND: the file must be there.
@@ -42,10 +48,13 @@ absolute() {
 use_library() {
     if [ -z "${BRECCIANEST_LIB_DIR:-}" ]; then
         BRECCIANEST_LIB_DIR=target/staticlib
-        if stale target/staticlib/libbreccianest.a; then run_rt staticlib breccianest; fi
+        if stale target/staticlib/libbreccianest.a; then
+            run_rt lib breccianest_c
+            put crates/breccianest_c/out/libbreccianest_c.a target/staticlib/libbreccianest.a
+        fi
     fi
     BRECCIANEST_LIB_DIR=$(absolute "$BRECCIANEST_LIB_DIR")
-    there "$BRECCIANEST_LIB_DIR/libbreccianest.a" "rt staticlib breccianest"
+    there "$BRECCIANEST_LIB_DIR/libbreccianest.a" "scripts/build"
     export BRECCIANEST_LIB_DIR
 }
 
@@ -57,10 +66,15 @@ in_reference() {
 
 use_programs() {
     if [ -z "${BILL:-}" ] || [ -z "${NOTICE:-}" ]; then
-        if stale target/bin/bill || stale target/bin/notice; then run_rt check bill notice; fi
+        for program in bill notice; do
+            if stale target/bin/$program; then
+                run_rt run $program
+                put crates/$program/out/$program target/bin/$program
+            fi
+        done
     fi
     BILL=$(absolute "${BILL:-target/bin/bill}")
     NOTICE=$(absolute "${NOTICE:-target/bin/notice}")
-    there "$BILL" "rt check bill"
-    there "$NOTICE" "rt check notice"
+    there "$BILL" "scripts/build"
+    there "$NOTICE" "scripts/build"
 }

@@ -1,5 +1,5 @@
 //! Links `libbreccianest.a` from BRECCIANEST_LIB_DIR, or from where
-//! `rt staticlib breccianest` writes it.
+//! `scripts/build` writes it.
 
 use std::env;
 use std::path::{Path, PathBuf};
@@ -10,7 +10,7 @@ fn main() {
     let folder = folder();
     let library = folder.join("libbreccianest.a");
     if !library.is_file() {
-        panic!("{} is not there: `rt staticlib breccianest` builds it", library.display());
+        panic!("{} is not there: `scripts/build` builds it", library.display());
     }
     println!("cargo:rerun-if-changed={}", library.display());
     println!("cargo:rustc-link-search=native={}", folder.display());
