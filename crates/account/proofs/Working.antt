@@ -1,7 +1,7 @@
 -- A plan comes to the work of its call. Assumes nothing.
 use Rattle.common.proofs.Words.{◌≡◌, refl, ap, cond, List, [], ◌++◌, ℕ, add-zero, zero-add, pos, length, replicate}
 use Rattle.lists.proofs.Pad.{drop_replicate}
-use Rattle.meter.specs.{declared.Estimates.Estimates, declared.Volumes.Volumes, Sharing.volumes_of}
+use Rattle.meter.specs.{declared.Estimates.Estimates, declared.Volumes.Volumes, Sharing.volumes_of, Sharing.filled_with}
 use Rattle.ledger.specs.{declared.Ledger.Ledger, Posting.Standing, Posting.standing, Posting.closed, Entries.taken, Entries.asked}
 use Rattle.ledger.proofs.Posting.{closed_with_none}
 use Rattle.intake.specs.declared.Call.TheVariants.{Opening, Reading, Missed, Absent, Exchange, Disconnection, Reconnection, Cancellation}
@@ -9,7 +9,6 @@ use Rattle.intake.specs.declared.Call.TheVariants.{Payment, StoppedCancellation}
 use Rattle.intake.specs.{declared.Head.Head, declared.Call.Call, Heads.head_on, Statuses.is_cancelled}
 use Rattle.plan.specs.Plans.{held_entry, stopped_plan, passed_plan, passed_volumes}
 use Rattle.plan.specs.declared.Plan.{Plan}
-use Rattle.closing.specs.Closing.{filled_with}
 use Rattle.account.specs.Calls.{head_of, standing_estimates, Work, work, paid_ledger, stopped_cancellation, account_of}
 use Rattle.account.specs.{declared.Account.Account, Works.work_of}
 

@@ -19,15 +19,6 @@ use ledger::Ledger;
 use meter::{Estimate, Estimates, Volumes};
 use plan::plans::plan_with;
 use plan::{Change, Plan};
-use tariff::Fuel;
-
-const BLANK: Estimate = Estimate {
-    absent: false,
-    days: 0,
-    fuel: Fuel { lng: 0, propane: 0 },
-    volume: 0,
-    charged: 0,
-};
 
 // Any call.
 pub fn answer(account: Account, holidays: &[u16], call: Call) -> Outcome
@@ -36,9 +27,8 @@ pub fn answer(account: Account, holidays: &[u16], call: Call) -> Outcome
     ensures { result ≡ outcome holidays.now account call }
 {
     let head = head_of(account);
-    let estimates = account.estimates;
     let mut volumes = [0u32; 7];
-    let plan = plan_with(head, estimates, call, &mut volumes);
+    let plan = plan_with(head, account.estimates.standing(), call, &mut volumes);
     if plan.number != 0 {
         return decline(account, plan.number);
     }
@@ -157,7 +147,7 @@ pub fn no_estimates() -> Estimates
 {
     Estimates {
         count: 0,
-        periods: [BLANK; MOST_MISSES],
+        periods: [Estimate::default(); MOST_MISSES],
     }
 }
 
@@ -167,12 +157,8 @@ fn with_estimate(estimates: Estimates, estimate: Estimate) -> Estimates
     ensures { result ≡ stored_estimates (standing estimates ++ (estimate ∷ [])) }
 {
     let count = estimates.count;
-    let mut periods = [BLANK; MOST_MISSES];
-    let mut i: usize = 0;
-    while i < count {
-        periods[i] = estimates.periods[i];
-        i += 1;
-    }
+    let mut periods = no_estimates().periods;
+    periods[..count].copy_from_slice(estimates.standing());
     periods[count] = estimate;
     Estimates {
         count: count + 1,

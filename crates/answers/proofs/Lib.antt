@@ -1,4 +1,3 @@
 -- Laws of writing.
-pub mod Answers
 pub mod Writing
-pub mod Pairs
+pub mod Table

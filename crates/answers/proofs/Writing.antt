@@ -1,17 +1,22 @@
 -- Laws of writing. Assumes nothing.
-use Rattle.common.proofs.Words.{◌≡◌, refl, sym, ap, ◌∙◌, List, [], ◌∷◌, ◌++◌, ℕ, zero, suc, ◌+◌, ◌-◌, ◌*◌, ◌/◌, ◌%◌, ◌≤◌, ◌<◌, add-zero}
-use Rattle.common.proofs.Words.{add-suc, suc-add, le_of_lt, not-suc-le-zero, arith, add-one, length, get_or, set, take, replicate}
-use Rattle.common.proofs.Words.{length-append, length-sets}
+use Rattle.common.proofs.Words.{◌≡◌, refl, sym, ap, ◌∙◌, List, [], ◌∷◌, ◌++◌, append_assoc, append-nil}
+use Rattle.common.proofs.Words.{ℕ, zero, suc, ◌+◌, ◌-◌, ◌*◌, ◌/◌, ◌%◌, ◌≤◌, ◌<◌, add-zero, zero-add, add-suc, suc-add, add-one, arith}
+use Rattle.common.proofs.Words.{length, get_or, set, take, drop, replicate, length-append, length-drop, length-replicate, length-set, lt-ltb}
+use Rattle.common.proofs.Words.{take_all, take-append_seam, drop-drop, drop-cons, drop_of_length-le, ℤ, pos, negsuc, w32, of_z}
 use native.Mathlib.Nat.{zero-div, zero-mod}
-use lib.{ListN.replicate-append-replicate, Seq.set_comm}
+use lib.{ListN.replicate-append-replicate, Seq.set_comm, Seq.drop-append_seam, Seq.set_at}
+use borrow.Rule.Slice.PartMut.{put_mid}
+use Rattle.std.specs.Prelude.{Option, Some, None}
+use Rattle.std.proofs.lemmas.{List.drop-set, List.Edits.sets-eq}
 use Rattle.lists.specs.Joined.{joined}
-use Rattle.lists.proofs.Joined.{joined_next, joined_taken}
-use Rattle.frames.specs.Digits.{glyph, digits, written}
-use Rattle.frames.proofs.Digits.{length_digits}
-use Rattle.calendar.specs.{declared.FoundDate.FoundDate, Conversions.to_date}
+use Rattle.lists.proofs.Joined.{joined_next}
+use Rattle.calendar.specs.{declared.Date.Date, Conversions.to_date}
 use Rattle.ledger.specs.declared.Item.{Item}
 use Rattle.account.specs.declared.Answer.{Answer}
-use Rattle.answers.specs.{Answers.answer_head, Answers.answer_amounts, Notices.date_digits, Notices.notice_line, Notices.notice_length}
+use Rattle.frames.specs.Digits.{glyph, digits, bytes, written}
+use Rattle.frames.proofs.Digits.{length_digits}
+use Rattle.answers.specs.Answers.{twos_complement, answer_head, answer_amounts}
+use Rattle.answers.specs.Notices.{date_digits, notice_line, notice_length}
 
 -- One text behind another is written behind it.
 pub written_behind : (text : List ℕ) (at : ℕ) (xs ys : List ℕ)
@@ -24,68 +29,22 @@ pub written_on : (text : List ℕ) (at : ℕ) (xs ys : List ℕ) (n : ℕ) {one 
     → two ≡ written one (at + n) ys → two ≡ written text at (xs ++ ys)
 written_on text at xs ys n l e f = rw (f, e, ← l) (sym (written_behind text at xs ys))
 
--- Texts put one behind the other: what stands at a place, and its length.
-pub record Sized (xs : List ℕ) (n : ℕ) : Type 0 where
-  pub long : length xs ≡ n
+-- What a part is filled with is written from its place on.
+pub written_part : (text : List ℕ) (at k : ℕ) (xs : List ℕ) → k ≡ length xs → at + length xs ≤ length text → put_mid at k text xs ≡ written text at xs
+written_part text at k xs e h =
+    rw (e, drop-drop (length xs) at text, sets-eq xs text at h) (sym (append_assoc (take at text) xs (drop (at + length xs) text)))
 
-pub sized : (xs : List ℕ) {n : ℕ} → length xs ≡ n → Sized xs n
-sized xs e = record { long = e }
-
-pub record Put (text : List ℕ) (at : ℕ) (xs : List ℕ) (n : ℕ) (now : List ℕ) : Type 0 where
-  pub stands : now ≡ written text at xs
-  pub long : length xs ≡ n
-
-pub put_first : (text : List ℕ) (at : ℕ) {xs now : List ℕ} {n : ℕ} → Sized xs n → now ≡ written text at xs → Put text at xs n now
-put_first text at size e = record { stands = e; long = size.long }
-
-module _ {text xs one : List ℕ} {at n : ℕ} (p : Put text at xs n one) where
-  pub put_more : {ys two : List ℕ} {m : ℕ} → Sized ys m → two ≡ written one (at + n) ys → Put text at (xs ++ ys) (n + m) two
-  put_more {ys} size e =
-      record { stands = written_on text at xs ys n p.long p.stands e; long = rw (length-append, p.long, size.long) }
-
-  -- one character more
-  pub put_last : (y : ℕ) {place : ℕ} → place ≡ at + n → Put text at (xs ++ (y ∷ [])) (n + 1) (set one place y)
-  put_last y e = put_more (sized (y ∷ []) refl) (ap (λ k. set one k y) e)
-
-  pub put_length : length one ≡ length text
-  put_length = rw p.stands (length-sets text at xs)
-
-pub digits_sized : (base k n : ℕ) → Sized (digits base k n) k
-digits_sized base k n = sized (digits base k n) (length_digits base k n)
-
-pub date_sized : (found : FoundDate) → Sized (date_digits found) 8
-date_sized (FoundDate.Date date) = record { long = simp (length-append, length_digits) }
-date_sized FoundDate.None = digits_sized 10 8 0
-
--- One text more of those of a list, all of one length.
-pub joined_put : {A : Type 0} (write : A → List ℕ) (width : ℕ) → ((x : A) → length (write x) ≡ width) → (xs : List A) (i : ℕ) (blank : A)
-    (text : List ℕ) (at : ℕ) {one two : List ℕ} → i < length xs → one ≡ written text at (joined write (take i xs))
-    → two ≡ written one (at + width * i) (write (get_or xs i blank)) → two ≡ written text at (joined write (take (i + 1) xs))
-joined_put write width same xs i blank text at h e f =
-    let long = joined_taken write width same xs i (le_of_lt h) in
-    rw (joined_next write xs i blank h) (written_on text at (joined write (take i xs)) (write (get_or xs i blank)) (width * i) long e f)
-
--- Writing leaves what is behind it.
-set_written : (text : List ℕ) (at : ℕ) (xs : List ℕ) (j y : ℕ) → at + length xs ≤ j
-    → set (written text at xs) j y ≡ written (set text j y) at xs
-set_written text at [] j y h = refl
-set_written text at (x ∷ xs) j y h =
-    set_written (set text at x) (suc at) xs j y (rw (suc-add at (length xs)) (omega arith)) ∙
-    ap (λ t. written t (suc at) xs) (set_comm text at j x y (λ e. omega arith))
-
--- The last character first.
-written_last : (text : List ℕ) (at : ℕ) (xs : List ℕ) (y : ℕ)
-    → written text at (xs ++ (y ∷ [])) ≡ written (set text (at + length xs) y) at xs
-written_last text at xs y = written_behind text at xs (y ∷ []) ∙ set_written text at xs (at + length xs) y (omega arith)
-
--- One digit more, from the last on.
-pub written_next : (text : List ℕ) (at base i n : ℕ) → 1 ≤ i
-    → written text at (digits base i n) ≡ written (set text (at + (i - 1)) (glyph (n % base))) at (digits base (i - 1) (n / base))
-unfolding digits
-written_next text at base zero n h = absurd (not-suc-le-zero h)
-written_next text at base (suc k) n h =
-    let one : suc k - 1 ≡ k = omega arith in
-    rw (one, written_last text at (digits base k (n / base)) (glyph (n % base)), length_digits base k (n / base))
+-- What is written at the front of a part from a place on is written from there on.
+pub written_in_part : (text : List ℕ) (at : ℕ) (xs : List ℕ) {part : List ℕ} → at + length xs ≤ length text
+    → part ≡ written (take (length text - at) (drop at text)) 0 xs → put_mid at (length text - at) text part ≡ written text at xs
+written_in_part text at xs h e =
+    let rest = drop at text in
+    let whole : take (length text - at) rest ≡ rest = take_all (length text - at) rest (omega (arith, length-drop at text)) in
+    let within : 0 + length xs ≤ length rest = omega (arith, length-drop at text) in
+    let front = rw (zero-add (length xs)) at (sets-eq xs rest 0 within) in
+    let none : drop (length text - at) rest ≡ [] = drop_of_length-le rest {i = length text - at} (omega (arith, length-drop at text)) in
+    rw (e, whole, front, none, append-nil (xs ++ drop (length xs) rest), drop-drop (length xs) at text, sets-eq xs text at h)
+    (sym (append_assoc (take at text) xs (drop (at + length xs) text)))
 
 -- Zero is so many characters 0.
 pub digits_zero : (base k : ℕ) → digits base k 0 ≡ replicate k 48
@@ -93,13 +52,99 @@ unfolding digits
 digits_zero base zero = refl
 digits_zero base (suc k) = rw (zero-div base, zero-mod base, digits_zero base k, replicate-append-replicate {A = ℕ} k 1 48, add-one k)
 
--- One character more of a run.
-pub written_run : (text : List ℕ) (at i k y : ℕ) → i < k
-    → written text (at + i) (replicate (k - i) y) ≡ written (set text (at + i) y) (at + (i + 1)) (replicate (k - (i + 1)) y)
-written_run text at i k y h =
-    let more : k - i ≡ suc (k - (i + 1)) = omega arith in
-    let next : suc (at + i) ≡ at + (i + 1) = omega arith in
-    rw (more, ← next)
+-- One digit more, from the last on: those that are left stand before those that are put.
+pub digits_next : (base i n : ℕ) (text : List ℕ) → i < length text
+    → digits base (i + 1) n ++ drop (i + 1) text ≡ digits base i (n / base) ++ drop i (set text i (glyph (n % base)))
+unfolding digits
+digits_next base i n text h =
+    let last = glyph (n % base) in
+    rw (add-one i, drop-set text i last h, add-one i, append_assoc (digits base i (n / base)) (last ∷ []) (drop (suc i) text))
+
+-- One byte more.
+pub bytes_next : (i n : ℕ) (text : List ℕ) → 2 * i + 1 < length text
+    → bytes (i + 1) n ++ drop (2 * (i + 1)) text
+    ≡ bytes i (n / 256) ++ drop (2 * i) (set (set text (2 * i) (glyph (n % 256 / 16))) (2 * i + 1) (glyph (n % 256 % 16)))
+bytes_next i n text h =
+    let two : 2 * (i + 1) ≡ 2 * i + 1 + 1 = omega arith in
+    let high : n % 256 / 16 ≡ n / 16 % 16 = omega arith in
+    let low : n % 256 % 16 ≡ n % 16 = omega arith in
+    let rest : n / 256 ≡ n / 16 / 16 = omega arith in
+    let one = set text (2 * i + 1) (glyph (n % 16)) in
+    let within : 2 * i < length one = rw (length-set text (2 * i + 1) (glyph (n % 16))) (omega arith) in
+    rw (two, high, low, rest, set_comm text (2 * i) (2 * i + 1) (glyph (n / 16 % 16)) (glyph (n % 16)) (λ e. omega arith))
+    (digits_next 16 (2 * i + 1) n text h ∙ digits_next 16 (2 * i) (n / 16) one within)
+
+-- A decimal digit.
+pub decimal_glyph : (d : ℕ) → d < 10 → glyph d ≡ 48 + d
+decimal_glyph d h = rw (lt-ltb d 10 h)
+
+-- The bits of a net.
+pub net_bits : (net : ℤ) → of_z w32 net ≡ twos_complement net
+net_bits (pos n) = refl
+net_bits (negsuc n) = refl
+
+-- Texts put one behind the other at the front of a buffer: what stands there, and its length.
+pub record Put (old xs : List ℕ) (n : ℕ) (now : List ℕ) : Type 0 where
+  pub stands : now ≡ xs ++ drop n old
+  pub long : length xs ≡ n
+
+pub put_none : (old : List ℕ) → Put old [] 0 old
+put_none old = record { stands = refl; long = refl }
+
+pub put_first : (old : List ℕ) {xs now : List ℕ} {n : ℕ} → length xs ≡ n → now ≡ xs → Put old xs n (now ++ drop n old)
+put_first old {xs} {now} {n} l e = record { stands = ap (λ t. t ++ drop n old) e; long = l }
+
+module _ {old xs one : List ℕ} {n : ℕ} (p : Put old xs n one) where
+  -- one text more, in a part of its length
+  pub put_part : {ys part : List ℕ} {m k : ℕ} → length ys ≡ m → part ≡ ys → k ≡ m → Put old (xs ++ ys) (n + m) (put_mid n k one part)
+  put_part {ys} {part} {m} {k} l e size =
+      let front : take n (xs ++ drop n old) ≡ xs = rw (← p.long) (take-append_seam xs (drop (length xs) old)) in
+      let behind : drop n (xs ++ drop n old) ≡ drop n old = rw (← p.long) (drop-append_seam xs (drop (length xs) old)) in
+      record {
+        stands = rw (size, e, p.stands, front, behind, drop-drop m n old, append_assoc xs ys (drop (n + m) old));
+        long = rw (length-append, p.long, l);
+      }
+
+  pub put_more : {ys part : List ℕ} {m : ℕ} → length ys ≡ m → part ≡ ys → Put old (xs ++ ys) (n + m) (put_mid n m one part)
+  put_more l e = put_part l e refl
+
+  -- a run of one character more
+  pub put_run : (m y : ℕ) {part : List ℕ} {k : ℕ} → part ≡ replicate k y → k ≡ m → Put old (xs ++ replicate m y) (n + m) (put_mid n m one part)
+  put_run m y e size = put_more (length-replicate m y) (e ∙ ap (λ i. replicate i y) size)
+
+  -- one character more
+  pub put_last : (y : ℕ) → n < length old → Put old (xs ++ (y ∷ [])) (n + 1) (set one n y)
+  put_last y h =
+      let rest = drop (suc n) old in
+      record {
+        stands = rw (p.stands, drop-cons old n 0 h, set_at xs (get_or old n 0) rest y n p.long, add-one n, append_assoc xs (y ∷ []) rest);
+        long = rw (length-append, p.long);
+      }
+
+  -- all there is room for
+  pub put_all : length old ≡ n → one ≡ xs
+  put_all l = p.stands ∙ rw (drop_of_length-le old {i = n} (omega arith), append-nil xs)
+
+  pub put_written : n ≤ length old → one ≡ written old 0 xs
+  put_written h =
+      let at_front = rw (zero-add (length xs)) at (sets-eq xs old 0 (rw (zero-add (length xs), p.long) h)) in
+      p.stands ∙ rw (← p.long) (sym at_front)
+
+-- One text more of those of a list, all of one length.
+module _ {A : Type 0} (write : A → List ℕ) (width : ℕ) (same : (x : A) → length (write x) ≡ width) (xs : List A) where
+  pub put_next : (i : ℕ) (blank : A) {old one part : List ℕ} {k : ℕ} → i < length xs → Put old (joined write (take i xs)) (width * i) one
+      → part ≡ write (get_or xs i blank) → k ≡ width → Put old (joined write (take (i + 1) xs)) (width * (i + 1)) (put_mid (width * i) k one part)
+  put_next i blank h p e size =
+      let next : width * (i + 1) ≡ width * i + width = omega arith in
+      rw (next, joined_next write xs i blank h) (put_part p (same (get_or xs i blank)) e size)
+
+  pub put_listed : {i : ℕ} {old one : List ℕ} → i ≡ length xs → Put old (joined write (take i xs)) (width * i) one
+      → length old ≡ width * length xs → one ≡ joined write xs
+  put_listed {i} e p long = rw (take_all i xs (omega arith)) at (put_all p (rw e long))
+
+pub length_date : (found : Option Date) → length (date_digits found) ≡ 8
+length_date (Some date) = simp (length-append, length_digits)
+length_date None = length_digits 10 8 0
 
 pub length_head : (answer : Answer) → length (answer_head answer) ≡ 12
 length_head answer = simp (length-append, length_digits)
@@ -109,5 +154,4 @@ length_amounts answer = simp (length-append, length_digits)
 
 pub length_notice : (item : Item) → length (notice_line item) ≡ notice_length
 unfolding notice_line
-length_notice item =
-    simp (length-append, length_digits, (date_sized (to_date item.obligation)).long, (date_sized (to_date item.due)).long)
+length_notice item = simp (length-append, length_digits, length_date (to_date item.obligation), length_date (to_date item.due))

@@ -1,22 +1,9 @@
 -- Output of `bill`: the frame of an answer, one a line.
-use Rattle.std.specs.Prelude.{◌≡◌, List, [], ◌∷◌, ◌++◌, ℕ, suc, ◌+◌, ◌-◌, ◌^◌, ◌≤◌}
-use lib.{IntN.ℤ, IntN.pos, IntN.negsuc, ListN.length, ListN.take}
+use Rattle.std.specs.Prelude.{List, [], ◌∷◌, ◌++◌, ℕ, suc, ◌-◌, ◌^◌}
+use lib.{IntN.ℤ, IntN.pos, IntN.negsuc, ListN.take}
 use Rattle.lists.specs.Joined.{joined}
 use Rattle.account.specs.declared.Answer.{Answer}
-use Rattle.frames.specs.Digits.{line_feed, bytes, PairTable}
-
--- An answer by its numbers.
-abbrev pub answer_of : ℕ → ℕ → ℕ → List ℕ → ℤ → ℕ → ℕ → ℕ → Answer
-answer_of number estimated count volumes net interest unpaid credit =
-    record {
-      number = number;
-      estimated = estimated;
-      volumes = record { count = count; volumes = volumes };
-      net = net;
-      interest = interest;
-      unpaid = unpaid;
-      credit = credit;
-    }
+use Rattle.frames.specs.Digits.{line_feed, bytes}
 
 -- Two's complement in 4 bytes.
 abbrev pub twos_complement : ℤ → ℕ
@@ -54,10 +41,3 @@ answer_line answer = answer_frame answer ++ (line_feed ∷ [])
 -- No answer has more than seven volumes, so no line is longer.
 abbrev pub longest_answer : ℕ
 longest_answer = 117
-
--- What the answer to a call that is accepted is written with: its volumes in seven places, room for the longest line, and the table.
-pub record Accepting (volumes : List ℕ) (count : ℕ) (out : List ℕ) (at : ℕ) (pairs : List ℕ) : Type 0 where
-  pub seven : length volumes ≡ 7
-  pub few : count ≤ 7
-  pub room : at + longest_answer ≤ length out
-  pub table : PairTable pairs

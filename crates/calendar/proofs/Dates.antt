@@ -1,13 +1,13 @@
 -- Dates and their numbers: the date of a day number has that number, and the number of a date has that date. Assumes nothing.
-use Rattle.common.proofs.Words.{◌≡◌, refl, ap, ap₂, ◌∙◌, sym, Bool, true, false, cond, ℕ, zero, suc, ◌+◌, ◌-◌, ◌≤◌, ◌<◌, arith, ltb, take}
+use Rattle.common.proofs.Words.{◌≡◌, refl, ap, ap₂, ◌∙◌, sym, Bool, true, false, cond, ℕ, zero, suc, ◌+◌, ◌-◌, ◌*◌, ◌/◌, ◌≤◌, ◌<◌, arith, ltb, take}
 use Rattle.common.proofs.Words.{ltb-true, ltb-false}
 use Rattle.lists.specs.Sum.{sum}
 use Rattle.lists.proofs.Sum.{front_rises}
 use Rattle.calendar.specs.Gregorian.{year_length, month_lengths, month_length, day_after, date_at, sum_below, days_before_year}
 use Rattle.calendar.specs.Gregorian.{days_before_month, day_number}
-use Rattle.calendar.specs.{declared.Date.Date, Conversions.IsMonth}
+use Rattle.calendar.specs.{declared.Date.Date, Conversions.InCentury, Conversions.IsMonth}
 use Rattle.calendar.proofs.Months.{month_least, year_begins, next_month, year_end, month_ends}
-use Rattle.calendar.proofs.{Intervals.one_interval, Years.next_year, Years.years_rise}
+use Rattle.calendar.proofs.{Intervals.one_interval, Years.next_year, Years.years_rise, Years.days_before_year_lem}
 
 -- the days of a date's month
 abbrev days_of_month : Date → ℕ
@@ -173,6 +173,27 @@ month_at {year} {month} {day-of-year} h within w = same_month (rw (own_day, year
 
     own_day : day_of_year date ≡ day-of-year
     own_day = omega (arith, date_number number, ap days_before_year year_is)
+
+-- The year of a day number, by the days before it and before the next, each in closed form.
+pub year_between : (number year : ℕ) → 2000 ≤ year → year ≤ 2099 → (year - 2000) * 365 + (year - 2000 + 3) / 4 ≤ number
+    → number < (year - 1999) * 365 + (year - 1999 + 3) / 4
+    → year ≡ (date_at number).year
+year_between number year h l low high =
+    let begun = days_before_year_lem year h (omega arith) in
+    let over = days_before_year_lem (year + 1) (omega arith) (omega arith) in
+    sym (year_at (omega (arith, begun, over)))
+
+-- The month of a day of a year, by the days before it and before the next.
+pub month_between : (year month day-of-year : ℕ) → InCentury year → IsMonth month → day-of-year < year_length year
+    → days_before_month year month ≤ day-of-year
+    → day-of-year < days_before_month year (month + 1)
+    → month ≡ (date_at (days_before_year year + day-of-year)).month
+month_between year month day-of-year w m within low high =
+    sym (month_at w.from_2000 within (record { is_month = m; begun = low; not_over = omega (arith, high, next_month year month m) }))
+
+pub december : (year day-of-year : ℕ) → InCentury year → day-of-year < year_length year → days_before_month year 12 ≤ day-of-year
+    → 12 ≡ (date_at (days_before_year year + day-of-year)).month
+december year day-of-year w within low = month_between year 12 day-of-year w (omega arith) within low (rw (year_end year) within)
 
 -- Two dates with one number are one date.
 number_once : {a b : Date} → Valid a → Valid b → day_number a ≡ day_number b → a ≡ b

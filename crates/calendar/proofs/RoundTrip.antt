@@ -1,11 +1,12 @@
 -- The two conversions undo each other on the whole range. Assumes nothing.
-use Rattle.common.proofs.Words.{◌≡◌, true, ◌&&◌, and-eq-true_iff, ℕ, suc, ◌+◌, ◌-◌, ◌≤◌, lt_of_not-le, arith}
+use Rattle.common.proofs.Words.{◌≡◌, true, ◌&&◌, and-eq-true_iff, ℕ, suc, ◌+◌, ◌-◌, ◌≤◌, ◌<◌, lt_of_not-le, arith}
 use Rattle.common.specs.Range.{within}
+use Rattle.std.specs.Prelude.{Some}
 use Rattle.common.proofs.Tests.{within_true, within_intro}
-use Rattle.calendar.specs.Gregorian.{month_length, date_at, days_before_year, day_number}
-use Rattle.calendar.specs.Conversions.{first_number, last_number, is_date, to_date, from_date}
-use Rattle.calendar.specs.{declared.Date.Date, declared.FoundDate.FoundDate, declared.FoundDay.FoundDay}
-use Rattle.calendar.proofs.Dates.{Valid, date_valid, date_number, number_date, own_year}
+use Rattle.calendar.specs.Gregorian.{year_length, month_length, date_at, days_before_year, day_number}
+use Rattle.calendar.specs.Conversions.{first_number, last_number, is_date, to_date, from_date, InCentury, IsMonth}
+use Rattle.calendar.specs.declared.Date.{Date}
+use Rattle.calendar.proofs.Dates.{Valid, day_of_year, within_year, date_valid, date_number, number_date, own_year}
 use Rattle.calendar.proofs.{Intervals.never_falls, Years.years_rise, Years.days_before_year_lem}
 
 -- What the test of a date says.
@@ -57,13 +58,33 @@ date_tested number h =
         let own = own_year (date_at number) (date_valid number) in
         omega (arith, years_mono 2100 (date_at number).year (omega arith) l, century_ends, own.begun, date_number number)
 
+-- The parts of a day number: the days before its year, before its month and before its day.
+pub record Parts (number : ℕ) (date : Date) : Type 0 where
+  pub in_century : InCentury date.year
+  pub is_month : IsMonth date.month
+  pub from_first : 1 ≤ date.day
+  pub whole : number ≡ days_before_year date.year + day_of_year date
+  pub in_year : day_of_year date < year_length date.year
+
+pub date_parts : (number : ℕ) → number ≤ last_number → Parts number (date_at number)
+unfolding day_number
+date_parts number h =
+    let t = date_tested number h in
+    record {
+      in_century = omega (arith, t);
+      is_month = t.valid.in_year;
+      from_first = t.valid.from_first;
+      whole = omega (arith, date_number number);
+      in_year = within_year (date_at number) t.valid;
+    }
+
 -- From a number to its date and back.
-pub from_to : (number : ℕ) → number ≤ last_number → from_date (date_at number) ≡ FoundDay.Day (record { number = number })
+pub from_to : (number : ℕ) → number ≤ last_number → from_date (date_at number) ≡ Some (record { number = number })
 unfolding from_date
 from_to number h = rw (passes (date_at number) (date_tested number h), date_number number)
 
 -- From a date to its number and back.
-pub to_from : (date : Date) → is_date date ≡ true → to_date (day_number date) ≡ FoundDate.Date date
+pub to_from : (date : Date) → is_date date ≡ true → to_date (day_number date) ≡ Some date
 unfolding to_date
 to_from date e =
     let t = tested date e in

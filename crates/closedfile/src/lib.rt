@@ -1,10 +1,9 @@
 // The file `closed`, from its bytes to the list of closed days: specs/ClosedFile.
 #![tactic(auto)]
 
-ghost use Rattle.std.specs.Prelude.{◌≡◌, ◌<◌, length, get_or};
-ghost use Rattle.frames.specs.Digits.{line_feed, ValueTable};
+ghost use Rattle.std.specs.Prelude.{◌≡◌};
 ghost use Rattle.closedfile.specs.ClosedFile.{broken_list, list_in, held};
-ghost use Rattle.closedfile.specs.Reading.{DayAt};
+ghost use Rattle.closedfile.specs.Reading.{day_in};
 
 use duedays::is_list_allowed;
 use duedays::limits::{LAST_DUE_DAY, MOST_LISTED};
@@ -19,28 +18,25 @@ pub struct ClosedDays {
 // No file of the form is longer: 400 lines of four digits and LF.
 pub const LONGEST_FILE: usize = 2_000;
 
-// What a line that is not of the form reads as, or less.
-const NO_DAY: u64 = 4_294_967_296;
+// The digits of a day.
+const DIGITS: usize = 4;
 
 // The list of closed days that a file has.
 pub fn list_in(file: &[u8]) -> ClosedDays
     ensures { result ≡ held (list_in file.now) }
 {
-    let table = frames::value_table();
     let mut days = [0u16; MOST_LISTED];
     let mut count: usize = 0;
-    let mut at: usize = 0;
-    while at < file.len() {
-        let day = day_at(file, &table, at);
-        if count == MOST_LISTED {
+    for line in file.chunks(DIGITS + 1) {
+        let full = count == MOST_LISTED;
+        if full {
             return broken_list();
         }
-        if day >= NO_DAY {
+        let Some(day) = day_in(line) else {
             return broken_list();
-        }
-        days[count] = (day % 65_536) as u16;
+        };
+        days[count] = day;
         count += 1;
-        at += 5;
     }
     if !is_list_allowed(&days[..count]) {
         return broken_list();
@@ -57,27 +53,15 @@ fn broken_list() -> ClosedDays
     ClosedDays { count: 1, days }
 }
 
-// The day of the line that begins at a place: four digits, and then LF or the end.
-fn day_at(file: &[u8], table: &[u64; 256], at: usize) -> u64
-    requires at_in_bounds { at < length file.now }
-    requires value_table { ValueTable table.now }
-    ensures { DayAt file.now at result }
+// The day of the line that some characters begin with: four digits, and then LF or the end.
+fn day_in(line: &[u8]) -> Option<u16>
+    ensures { result ≡ day_in line.now }
 {
-    if file.len() - at < 4 {
-        return NO_DAY;
+    if line.len() < DIGITS {
+        return None;
     }
-    if character_at(file, at + 4) != 10 {
-        return NO_DAY;
+    if line.len() > DIGITS && line[DIGITS] != b'\n' {
+        return None;
     }
-    frames::field(file, table, at, 4)
-}
-
-// The character at a place; the end of the file ends its last line, as LF would.
-fn character_at(file: &[u8], at: usize) -> u8
-    ensures { result ≡ get_or file.now at line_feed }
-{
-    if at < file.len() {
-        return file[at];
-    }
-    10
+    Some(frames::number(&line[..DIGITS])? as u16)
 }

@@ -1,6 +1,7 @@
 -- A line's plan, entered: what comes of it is the outcome of the line. Assumes nothing.
 use Rattle.common.proofs.Words.{◌≡◌, refl, sym, ap, subst, ◌∙◌, Bool, true, false, cond, ◌⊎◌, inl, inr, ⊎_elim, List, [], ◌∷◌, ℕ, zero, suc}
 use Rattle.common.proofs.Words.{◌+◌, ◌≤◌, arith, eqb, length, take, drop, length-append, length-replicate, eq-eqb, ne_eqb}
+use Rattle.std.specs.Prelude.{Option, Some, None}
 use Rattle.lists.specs.Pad.{pad}
 use Rattle.lists.proofs.Pad.{length_take_most}
 use Rattle.duedays.specs.DueDays.{list_allowed}
@@ -11,19 +12,18 @@ use Rattle.ledger.specs.{Limits.capacity, Limits.most_end, Posting.Standing, Pos
 use Rattle.ledger.specs.Entries.{next, Enterable, Within}
 use Rattle.lanes.specs.Lanes.{Worked}
 use Rattle.ledger.proofs.Queues.{part_count, next_asked, next_same, Spread, spread_stands, spread_fits, gathered_is}
-use Rattle.intake.specs.{declared.Call.Call, declared.Head.Head, Limits.most_misses, Refusals.first_refusal}
+use Rattle.intake.specs.{declared.Call.Call, declared.Head.Head, Refusals.first_refusal}
 use Rattle.intake.specs.Heads.{HeadBounds, EstimatesFit}
 use Rattle.plan.specs.Plans.{changed, Room, passed_plan, passed_volumes}
 use Rattle.plan.specs.{declared.Plan.Plan, declared.Change.Change}
 use Rattle.plan.specs.declared.Change.TheVariants.{Kept, Cleared, Added}
-use Rattle.closing.specs.Closing.{stored_estimates}
+use Rattle.closing.specs.Closing.{stored_estimates, StandingBounds}
 use Rattle.plan.proofs.{Planning.passed_count, Bounds.entry_within, Bounds.change_room}
 use Rattle.account.specs.{declared.Account.Account, declared.Outcome.Outcome, Calls.head_of, Calls.Work, Calls.account_of}
 use Rattle.account.specs.{Outcomes.accepted, Outcomes.declined, Outcomes.outcome, Whole.whole}
 use Rattle.account.proofs.Ready.{head_bounds, count_most, whole_within, misses_most, estimates_within, whole_lying}
 use Rattle.account.proofs.Carrying.{made, goes, outcome_quiet, outcome_asked, outcome_refused}
 use Rattle.account.proofs.{Concluding.outcome_declined, Working.head_counted}
-use Rattle.frames.specs.{declared.Parsed.Parsed, declared.Parsed.TheVariants.Frame, declared.Parsed.TheVariants.NotAFrame}
 use Rattle.lines.specs.Line.{read_outcome, parsed_outcome}
 use Rattle.feeding.specs.Working.{account_in, Lain, unasked, Enters, head_after, answer_of}
 use Rattle.feeding.specs.Reached.{Reached}
@@ -53,6 +53,11 @@ module _ {holidays : List ℕ} {items : List Item} {q : Queue} {h : Head} {estim
         long = omega (arith, count_is, long, most);
         within = estimates_within account lain_whole;
       }
+
+  pub lain_standing : StandingBounds (standing estimates)
+  lain_standing =
+      let few = length_take_most estimates.count estimates.periods in
+      record { few = omega (arith, few, lain_estimates.few); within = lain_estimates.within }
 
   head_is : head_of account ≡ h
   head_is = head_counted h estimates (stored (lying items q)) l.count_is
@@ -184,9 +189,9 @@ module _ (holidays : List ℕ) (after : List Item) (r : Entered) (volumes : List
 
   -- What comes of a line, by a list within its bounds.
   module _ (listed : list_allowed holidays ≡ true) where
-    read_comes : {p : Plan} {line : Parsed} {before : List ℕ} → Enters holidays items q p after r
+    read_comes : {p : Plan} {line : Option Call} {before : List ℕ} → Enters holidays items q p after r
         → Planned h estimates line before p volumes → Comes after h estimates p r volumes (read_outcome holidays a line)
-    read_comes {p = p} {line = Frame call} enters plans =
+    read_comes {p = p} {line = Some call} enters plans =
         ⊎_elim
         (λ none. let passed = passes plans none in
         subst
@@ -195,12 +200,12 @@ module _ (holidays : List ℕ) (after : List Item) (r : Entered) (volumes : List
         (λ some. let is = number_is plans ∙ ap (λ (x : Head). first_refusal x call) (sym (head_is l)) in
         unasked_comes some (outcome_declined holidays a call listed (lain_whole l) p.number is some) (enters.declined some))
         (zero_or_not p.number)
-    read_comes {p = p} {line = NotAFrame} enters plans =
+    read_comes {p = p} {line = None} enters plans =
         let number-40 : p.number ≡ 40 = ap (λ (x : Plan). x.number) plans.is in
         let some : p.number ≡ 0 → ⊥ = λ z. absurd (omega (arith, number-40, z)) in
         unasked_comes some (ap (declined a) (sym number-40)) (enters.declined some)
 
-    pub comes : {p : Plan} {line : Parsed} {before : List ℕ} → Enters holidays items q p after r
+    pub comes : {p : Plan} {line : Option Call} {before : List ℕ} → Enters holidays items q p after r
         → Planned h estimates line before p volumes → Comes after h estimates p r volumes (parsed_outcome holidays a line)
     comes enters plans = rw listed (read_comes enters plans)
 
@@ -217,20 +222,19 @@ pub record Said (holidays : List ℕ) (h : Head) (p : Plan) (volumes : List ℕ)
   pub room : Room p.change h.standing
   pub count_is : length (take p.count volumes) ≡ p.count
 
-pub said : {holidays : List ℕ} {items : List Item} {q : Queue} {h : Head} {estimates : Estimates} {line : Parsed} {before volumes : List ℕ}
+pub said : {holidays : List ℕ} {items : List Item} {q : Queue} {h : Head} {estimates : Estimates} {line : Option Call} {before volumes : List ℕ}
     {p : Plan} → list_allowed holidays ≡ true → Lain holidays items q h estimates → Planned h estimates line before p volumes → p.number ≡ 0
     → Said holidays h p volumes
-said {h = h} {estimates} {line = Frame call} listed l plans none =
+said {h = h} {estimates} {line = Some call} listed l plans none =
     let stand = standing estimates in
-    let fit = lain_estimates l in
+    let bounds = lain_standing l in
     let passed = passes plans none in
-    let six : length stand ≤ most_misses = omega (arith, length_take_most estimates.count estimates.periods, fit.few) in
     rw passed.plan_is (record {
-      enterable = record { bounds = entry_within h (lain_bounds l) stand six fit.within call passed.first; listed = listed };
+      enterable = record { bounds = entry_within h (lain_bounds l) stand bounds.few bounds.within call passed.first; listed = listed };
       room = change_room h stand call passed.first;
       count_is = ap length passed.shown ∙ sym (passed_count h stand call);
     })
-said {line = NotAFrame} listed l plans none = absurd (omega (arith, ap (λ (x : Plan). x.number) plans.is, none))
+said {line = None} listed l plans none = absurd (omega (arith, ap (λ (x : Plan). x.number) plans.is, none))
 
 -- The estimates behind a line. Where as many stand as before, they are the same; else the call was accepted.
 module _ {holidays : List ℕ} {items after : List Item} {q : Queue} {h : Head} {estimates : Estimates} {p : Plan} {r : Entered}

@@ -1,42 +1,35 @@
 -- A line planned and answered. Assumes nothing.
-use Rattle.common.proofs.Words.{◌≡◌, refl, sym, ap, subst, ◌∙◌, true, List, [], ℕ, length, take, drop, take-append_seam, eq-eqb, ne_eqb}
-use Rattle.meter.specs.{declared.Estimates.Estimates, Sharing.standing}
+use Rattle.common.proofs.Words.{◌≡◌, refl, sym, ap, ◌∙◌, List, ℕ, length, take, drop, take-append_seam, eq-eqb, ne_eqb}
+use Rattle.std.specs.Prelude.{Option, Some, None}
+use Rattle.meter.specs.{declared.Estimate.Estimate, declared.Estimates.Estimates, Sharing.standing}
 use Rattle.ledger.specs.declared.Entered.{Entered}
 use Rattle.intake.specs.{declared.Call.Call, declared.Head.Head, Refusals.first_refusal}
-use Rattle.closing.specs.Closing.{filled_with}
-use Rattle.plan.specs.Plans.{planned, planned_volumes, passed_plan, passed_volumes, reads}
+use Rattle.meter.specs.Sharing.{filled_with}
+use Rattle.plan.specs.Plans.{passed_plan, passed_volumes}
 use Rattle.plan.specs.declared.Plan.{Plan}
-use Rattle.plan.proofs.Planning.{plan_alone, volumes_alone, planned_number, passed_plan_lem, passed_volumes_lem, passed_count}
+use Rattle.plan.proofs.Planning.{planned_number, passed_plan_lem, passed_volumes_lem, passed_count}
 use Rattle.account.specs.Outcomes.{acceptance, declining}
-use Rattle.frames.specs.{declared.Fields.Fields, declared.Parsed.Parsed, declared.Parsed.TheVariants.Frame}
-use Rattle.frames.specs.Numbers.{call_of, parsed_by}
-use Rattle.frames.proofs.Numbers.{parsed_frame}
-use Rattle.feeding.specs.Working.{LooksBack, PlanOf, answer_of}
+use Rattle.feeding.specs.Working.{PlanOf, NextPlan, answer_of}
 
 -- A line planned, by what it is planned on and what comes of it.
-pub record Planned (h : Head) (estimates : Estimates) (line : Parsed) (before : List ℕ) (p : Plan) (volumes : List ℕ) : Type 0 where
-  pub is : PlanOf h estimates line before p volumes
+pub record Planned (h : Head) (estimates : Estimates) (line : Option Call) (before : List ℕ) (p : Plan) (volumes : List ℕ) : Type 0 where
+  pub is : PlanOf h (standing estimates) line before p volumes
 
--- A call planned on the head alone, as the line's.
-pub planned_line : (h : Head) (estimates : Estimates) (f : Fields) (before : List ℕ) {after : List ℕ} {p : Plan} {call : Call}
-    → call ≡ call_of f → (f.width ≡ 0 → ⊥) → (reads (call_of f) ≡ true → standing estimates ≡ [])
-    → p ≡ planned h [] call → after ≡ filled_with (planned_volumes h [] call) before → PlanOf h estimates (parsed_by f) before p after
-planned_line h estimates f before {after} {p} call-is n alone is shown =
-    subst (λ line. PlanOf h estimates line before p after) (sym (parsed_frame f n)) (
-      is ∙ ap (planned h []) call-is ∙ plan_alone h (standing estimates) (call_of f) alone,
-      shown ∙ ap (λ x. filled_with (planned_volumes h [] x) before) call-is ∙
-          ap (λ volumes. filled_with volumes before) (volumes_alone h (standing estimates) (call_of f) alone),
-    )
+-- The next line, as it is read, and planned.
+pub record Read (h : Head) (estimates : Estimates) (next : Option (Option Call)) (before : List ℕ) (p : Plan) (volumes : List ℕ) : Type 0 where
+  pub line : Option Call
+  pub is : next ≡ Some line
+  pub plans : Planned h estimates line before p volumes
 
--- A call planned over the estimates, as the line's.
-pub planned_over : {h : Head} {estimates : Estimates} {f : Fields} {before after : List ℕ} {p : Plan} {call : Call}
-    → call ≡ call_of f → LooksBack f → p ≡ planned h (standing estimates) call
-    → after ≡ filled_with (planned_volumes h (standing estimates) call) before
-    → Planned h estimates (parsed_by f) before p after
-planned_over {h} {estimates} {before = before} {after} {p} call-is looks is shown =
-    let plans = is ∙ ap (planned h (standing estimates)) call-is in
-    let fills = shown ∙ ap (λ x. filled_with (planned_volumes h (standing estimates) x) before) call-is in
-    record { is = subst (λ line. PlanOf h estimates line before p after) (sym looks.frame) (plans, fills) }
+pub next_read : {h : Head} {estimates : Estimates} (next : Option (Option Call)) {before : List ℕ} {p : Plan} {volumes : List ℕ}
+    → NextPlan h (standing estimates) next before (Some p) volumes → Read h estimates next before p volumes
+next_read (Some line) plan = record { line = line; is = refl; plans = record { is = plan } }
+next_read None plan = absurd plan
+
+pub next_waits : (h : Head) (estimates : List Estimate) (next : Option (Option Call)) (before volumes : List ℕ)
+    → NextPlan h estimates next before None volumes → next ≡ None
+next_waits h estimates (Some line) before volumes plan = absurd plan
+next_waits h estimates None before volumes plan = refl
 
 -- A call that 1 to 11 let pass: its plan is the one that the definition says, and so are the volumes that it shows.
 pub record Passes (h : Head) (estimates : Estimates) (call : Call) (p : Plan) (volumes : List ℕ) : Type 0 where
@@ -45,7 +38,7 @@ pub record Passes (h : Head) (estimates : Estimates) (call : Call) (p : Plan) (v
   pub shown : take (passed_plan h (standing estimates) call).count volumes ≡ passed_volumes h (standing estimates) call
 
 module _ {h : Head} {estimates : Estimates} {call : Call} {before : List ℕ} {p : Plan} {volumes : List ℕ}
-    (l : Planned h estimates (Frame call) before p volumes) where
+    (l : Planned h estimates (Some call) before p volumes) where
   pub number_is : p.number ≡ first_refusal h call
   number_is = ap (λ (x : Plan). x.number) l.is.0 ∙ planned_number h (standing estimates) call
 

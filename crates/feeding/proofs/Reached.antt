@@ -3,12 +3,12 @@ use Rattle.common.proofs.Words.{◌≡◌, refl, sym, ap, ◌∙◌, true, List,
 use Rattle.common.proofs.Cases.{by_test}
 use Rattle.duedays.specs.DueDays.{list_allowed}
 use Rattle.ledger.specs.Posting.{Tidy}
+use Rattle.std.specs.Prelude.{Option, Some, None}
 use Rattle.account.specs.{declared.Account.Account, Calls.new_account, Calls.standing_estimates, Outcomes.outcome, Whole.whole}
 use Rattle.intake.specs.declared.Call.{Call}
 use Rattle.closing.specs.Closing.{stored_estimates}
 use Rattle.audit.specs.Claim.{Run, start, step, run}
 use Rattle.audit.proofs.Theorem.{reconciled, tidy, tidy_estimates}
-use Rattle.frames.specs.{declared.Parsed.Parsed, declared.Parsed.TheVariants.Frame, declared.Parsed.TheVariants.NotAFrame}
 use Rattle.lines.specs.Line.{read_outcome, parsed_outcome}
 use Rattle.feeding.specs.Reached.{Reached}
 
@@ -40,10 +40,10 @@ reached_call holidays a call r =
           sym (ap (λ (q : Run). q.account) (run_behind holidays start r.calls call));
     }
 
-pub reached_parsed : (holidays : List ℕ) (a : Account) (p : Parsed) → Reached holidays a
-    → Reached holidays (parsed_outcome holidays a p).account
-reached_parsed holidays a p r = by_test (list_allowed holidays) (λ e. rw e (read p)) (λ e. rw e r)
+pub reached_parsed : (holidays : List ℕ) (a : Account) (line : Option Call) → Reached holidays a
+    → Reached holidays (parsed_outcome holidays a line).account
+reached_parsed holidays a line r = by_test (list_allowed holidays) (λ e. rw e (read line)) (λ e. rw e r)
   where
-    read : (line : Parsed) → Reached holidays (read_outcome holidays a line).account
-    read (Frame call) = reached_call holidays a call r
-    read NotAFrame = r
+    read : (line : Option Call) → Reached holidays (read_outcome holidays a line).account
+    read (Some call) = reached_call holidays a call r
+    read None = r

@@ -1,14 +1,18 @@
 -- A run of lines under way, line by line. Assumes nothing.
-use Rattle.common.proofs.Words.{◌≡◌, refl, ◌∙◌, true, false, List, ℕ, ◌+◌, ◌-◌, ◌≤◌, sub-zero, arith, length}
+use Rattle.common.proofs.Words.{◌≡◌, refl, ap, ◌∙◌, List, ℕ, ◌+◌, ◌-◌, ◌≤◌, sub-zero, arith, length, length-sets, take, drop}
+use borrow.Rule.Slice.PartMut.{put_mid}
 use Rattle.meter.specs.declared.Estimates.{Estimates}
 use Rattle.ledger.specs.{declared.Entered.Entered, declared.Item.Item, declared.Queue.Queue}
 use Rattle.intake.specs.declared.Head.{Head}
 use Rattle.plan.specs.declared.Plan.{Plan}
 use Rattle.account.specs.declared.Account.{Account}
-use Rattle.frames.specs.{Digits.written, Numbers.parsed_by}
+use Rattle.std.specs.Prelude.{Option, Some, None}
+use Rattle.intake.specs.declared.Call.{Call}
+use Rattle.frames.specs.Digits.{written}
 use Rattle.answers.specs.Answers.{answer_line, longest_answer}
-use Rattle.lines.specs.Feeding.{kept_most, blank_line, nothing, feeding}
-use Rattle.lines.specs.{declared.Next.Next, declared.State.State, Line.parsed_outcome, Going.state, Going.fed_from, Going.Found}
+use Rattle.answers.proofs.Writing.{written_in_part}
+use Rattle.lines.specs.Feeding.{blank_line, nothing, feeding}
+use Rattle.lines.specs.{declared.Found.Found, declared.State.State, Line.parsed_outcome, Going.state, Going.fed_from, Going.read_as, Going.Finds}
 use Rattle.lines.proofs.Feeding.{Ahead, ahead_start, ahead_leads, ahead_done, ahead_text}
 use Rattle.lines.proofs.Going.{input_ended, ahead_turn}
 use Rattle.feeding.specs.Working.{account_in, Lain, head_after, answer_of, state_in, Runs}
@@ -25,7 +29,6 @@ pub record Running (holidays input text : List ℕ) (s : State) (items : List It
   pub within : w.taken ≤ length input
   pub out_long : length out ≡ length text
   pub placed : w.written ≤ length text
-  pub line_long : length line ≡ kept_most
   pub clear : w.length ≡ 0 → line ≡ blank_line
   pub lain : Lain holidays items w.queue w.head w.estimates
   pub ahead :
@@ -33,14 +36,13 @@ pub record Running (holidays input text : List ℕ) (s : State) (items : List It
       (fed_from holidays input w.taken (length text - w.written) (state_in items line w)) out
 
 pub running_start : {holidays input text : List ℕ} {items : List Item} {q : Queue} {h : Head} {estimates : Estimates} {begun : ℕ}
-    {line : List ℕ} → Lain holidays items q h estimates → length line ≡ kept_most → (begun ≡ 0 → line ≡ blank_line)
+    {line : List ℕ} → Lain holidays items q h estimates → (begun ≡ 0 → line ≡ blank_line)
     → Running holidays input text (state (account_in items q h estimates) begun line) items line text (went_to h estimates q begun 0 0)
-running_start {text = text} l long clear =
+running_start {text = text} l clear =
     record {
       within = omega arith;
       out_long = refl;
       placed = omega arith;
-      line_long = long;
       clear = clear;
       lain = l;
       ahead = rw (sub-zero (length text)) (ahead_start _ _);
@@ -63,38 +65,41 @@ module _ {holidays input text : List ℕ} {s : State} {items : List Item} {line 
       runs (ahead_leads g.ahead stops) g.within g.placed g.lain g.clear
 
   -- The next line was looked for.
-  module _ {line' : List ℕ} {n : Next} (looked : Found input w.taken (length out - w.written) w.length line line' n) where
+  module _ {line' : List ℕ} {n : Found} (looked : Finds input w.taken (length out - w.written) w.length line line' n) where
     abbrev account : Account
     account = account_in items w.queue w.head w.estimates
 
-    found : Found input w.taken (length text - w.written) w.length line line' n
+    found : Finds input w.taken (length text - w.written) w.length line line' n
     found = rw g.out_long at looked
 
     -- It has not ended.
-    pub running_waits : n.ended ≡ false
+    pub running_waits : read_as n.next ≡ None
         → Runs holidays input text s items line' out (went_to w.head w.estimates w.queue n.length n.taken w.written)
     running_waits waits = runs (ahead_leads g.ahead (found.waits waits holidays account)) found.within g.placed g.lain found.clear
 
     -- It ended, and was worked and answered.
-    pub running_on : n.ended ≡ true → {after : List Item} {p : Plan} {r : Entered} {volumes : List ℕ}
-        → Comes after w.head w.estimates p r volumes (parsed_outcome holidays account (parsed_by n.fields))
+    pub running_on : {read : Option Call} → read_as n.next ≡ Some read → {after : List Item} {p : Plan} {r : Entered} {volumes : List ℕ}
+        → Comes after w.head w.estimates p r volumes (parsed_outcome holidays account read)
         → {h : Head} → h ≡ head_after r.number p w.head
         → {estimates : Estimates} → estimates ≡ estimates_after r.number p w.estimates
-        → {out' : List ℕ} → length out' ≡ length out → out' ≡ written out w.written (answer_line (answer_of r p volumes))
-        → {place : ℕ} → place ≡ w.written + length (answer_line (answer_of r p volumes)) → place ≤ w.written + longest_answer
-        → Running holidays input text s after line' out' (went_to h estimates r.queue n.length n.taken place)
-    running_on ended c head_is estimates_are long out_is place_is few =
-        let o = parsed_outcome holidays account (parsed_by n.fields) in
-        let ends = found.ended ended in
+        → {part : List ℕ} → part ≡ written (take (length out - w.written) (drop w.written out)) 0 (answer_line (answer_of r p volumes))
+        → {size : ℕ} → size ≡ length (answer_line (answer_of r p volumes)) → size ≤ longest_answer
+        → Running holidays input text s after line' (put_mid w.written (length out - w.written) out part)
+        (went_to h estimates r.queue n.length n.taken (w.written + size))
+    running_on {read} is {after} {p} {r} {volumes} c head_is estimates_are part_is size_is few =
+        let answer = answer_line (answer_of r p volumes) in
+        let room = (looked.ended read is).room_left in
+        let out_is = written_in_part out w.written answer (omega (arith, room, size_is, few)) part_is in
+        let o = parsed_outcome holidays account read in
+        let ends = found.ended read is in
         record {
           within = found.within;
-          out_long = long ∙ g.out_long;
+          out_long = ap length out_is ∙ length-sets out w.written answer ∙ g.out_long;
           placed = omega (arith, few, ends.room_left, g.placed);
-          line_long = found.long;
           clear = found.clear;
-          lain = lain_turned c head_is estimates_are (reached_parsed holidays account (parsed_by n.fields) g.lain.reached);
+          lain = lain_turned c head_is estimates_are (reached_parsed holidays account read g.lain.reached);
           ahead =
               ahead_turn holidays input (length text) (state_in items line w) o g.ahead (ends.leads holidays account) c.answer_is
-              out_is place_is
+              out_is (ap (λ k. w.written + k) size_is)
               (λ i. state (account_turned c head_is estimates_are i) (ends.none_begun i) (ends.blank i));
         }

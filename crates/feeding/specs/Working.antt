@@ -1,22 +1,20 @@
 -- An account worked in parts: its head, its estimates, its open items as they lie in lanes, and the numbers of their queue.
 use mathlib.Core.{Path.◌≡◌, Bool.true, Bool.false, Bool.cond, List.List}
-use Rattle.std.specs.Prelude.{ℕ, ◌+◌, ◌≤◌}
+use Rattle.std.specs.Prelude.{Option, Some, None, ℕ, ◌+◌, ◌≤◌}
 use lib.{Dec.eqb, ListN.length, ListN.take}
 use Rattle.duedays.specs.DueDays.{list_allowed}
-use Rattle.meter.specs.declared.Estimates.{Estimates}
+use Rattle.meter.specs.{declared.Estimate.Estimate, declared.Estimates.Estimates}
 use Rattle.ledger.specs.{declared.Item.Item, Limits.most_end, Posting.stored, declared.Queue.Queue}
 use Rattle.ledger.specs.{Numbers.ledger_of, Numbers.lying, Numbers.Lies, declared.Entered.Entered}
 use Rattle.lanes.specs.Lanes.{rows, Long, Worked}
 use Rattle.account.specs.{Calls.account_of, declared.Account.Account, declared.Answer.Answer, Outcomes.acceptance, Outcomes.declining}
-use Rattle.intake.specs.{declared.Head.Head, Heads.HeadBounds}
-use Rattle.plan.specs.Plans.{quiet_plan, planned, planned_volumes, reads}
+use Rattle.intake.specs.{declared.Call.Call, declared.Head.Head}
+use Rattle.plan.specs.Plans.{quiet_plan, planned, planned_volumes}
 use Rattle.plan.specs.declared.Plan.{Plan}
-use Rattle.closing.specs.Closing.{filled_with}
-use Rattle.frames.specs.{declared.Fields.Fields, Numbers.SmallIn, Numbers.call_of, Numbers.parsed_by, declared.Parsed.Parsed}
-use Rattle.frames.specs.{declared.Parsed.TheVariants.Frame, declared.Parsed.TheVariants.NotAFrame, Digits.written}
+use Rattle.meter.specs.Sharing.{filled_with}
+use Rattle.frames.specs.Digits.{written}
 use Rattle.feeding.specs.{declared.Went.Went, Reached.Reached}
-use Rattle.lines.specs.{declared.State.State, declared.Fed.Fed, Feeding.kept_most, Feeding.blank_line, Feeding.feeding, Feeding.fed_of}
-use Rattle.meter.specs.Sharing as Sharing
+use Rattle.lines.specs.{declared.State.State, declared.Fed.Fed, Feeding.blank_line, Feeding.feeding, Feeding.fed_of}
 
 abbrev pub account_in : List Item → Queue → Head → Estimates → Account
 account_in items q h estimates = account_of h estimates (stored (lying items q))
@@ -34,29 +32,20 @@ pub record Feedable (us bs ls holidays : List ℕ) (q : Queue) (h : Head) (estim
   pub listed : list_allowed holidays ≡ true
   pub long : Long us bs ls
   pub lain : Lain holidays (rows us bs ls) q h estimates
-  pub line_long : length line ≡ kept_most
   pub clear : begun ≡ 0 → line ≡ blank_line
 
--- A line that looks at the estimates: a reading, where some stand; and one that does not.
-pub record LooksBack (fields : Fields) : Type 0 where
-  pub frame : parsed_by fields ≡ Frame (call_of fields)
-  pub reading : reads (call_of fields) ≡ true
-
-abbrev pub AloneIn : ℕ → Fields → Type 0
-AloneIn standing fields = (fields.width ≡ 0 → ⊥) → reads (call_of fields) ≡ true → standing ≡ 0
-
--- A line can be planned on the head alone, its volumes stored in seven places.
-pub record LinePlannable (h : Head) (fields : Fields) (volumes : List ℕ) : Type 0 where
-  pub bounds : HeadBounds h
-  pub small : SmallIn fields
-  pub alone : AloneIn h.standing fields
-  pub seven : length volumes ≡ 7
-
 -- A line planned: 40 where it is no frame.
-abbrev pub PlanOf : Head → Estimates → Parsed → List ℕ → Plan → List ℕ → Type 0
-PlanOf h estimates (Frame call) before r after =
-    (r ≡ planned h (Sharing.standing estimates) call) × (after ≡ filled_with (planned_volumes h (Sharing.standing estimates) call) before)
-PlanOf h estimates NotAFrame before r after = r ≡ quiet_plan 40 h
+abbrev pub PlanOf : Head → List Estimate → Option Call → List ℕ → Plan → List ℕ → Type 0
+PlanOf h estimates (Some call) before p after =
+    (p ≡ planned h estimates call) × (after ≡ filled_with (planned_volumes h estimates call) before)
+PlanOf h estimates None before p after = p ≡ quiet_plan 40 h
+
+-- The next line planned, where it has ended.
+abbrev pub NextPlan : Head → List Estimate → Option (Option Call) → List ℕ → Option Plan → List ℕ → Type 0
+NextPlan h estimates (Some line) before (Some p) after = PlanOf h estimates line before p after
+NextPlan h estimates (Some line) before None after = ⊥
+NextPlan h estimates None before (Some p) after = ⊥
+NextPlan h estimates None before None after = Unit {0}
 
 -- A plan entered: where it is refused or asks nothing, all stays as it lies.
 abbrev pub unasked : ℕ → Queue → Entered

@@ -2,24 +2,23 @@
 #![tactic(auto)]
 
 ghost use Rattle.std.specs.Prelude.{◌≡◌, true, false, ◌+◌, ◌≤◌, ◌<◌, length, take};
-ghost use Rattle.meter.specs.declared.Estimates.{Estimates};
+ghost use Rattle.intake.specs.Heads.{HeadBounds};
+ghost use Rattle.closing.specs.Closing.{StandingBounds};
 ghost use Rattle.ledger.specs.Entries.{Enterable};
 ghost use Rattle.lanes.specs.Lanes.{rows, Long, Workable};
-ghost use Rattle.frames.specs.Digits.{PairTable, written};
-ghost use Rattle.frames.specs.Numbers.{parsed_by, SmallIn};
+ghost use Rattle.frames.specs.Digits.{written};
 ghost use Rattle.answers.specs.Answers.{answer_line, longest_answer};
 ghost use Rattle.feeding.specs.Reached.{Ready};
 ghost use Rattle.lines.specs.Feeding.{feeding, finishing, fed_of};
-ghost use Rattle.lines.specs.Going.{state};
-ghost use Rattle.feeding.specs.Working.{account_in, Feedable, LooksBack, AloneIn, LinePlannable, PlanOf, unasked, Enters};
+ghost use Rattle.lines.specs.Going.{state, read_as};
+ghost use Rattle.feeding.specs.Working.{account_in, Feedable, NextPlan, unasked, Enters};
 ghost use Rattle.feeding.specs.Working.{head_after, answer_of, Runs, handed_back};
 
-use frames::Fields;
-use intake::Head;
+use intake::{Call, Head};
 use ledger::limits::{CAPACITY, LANE_PLACES};
 use ledger::{Entered, Item, Queue};
-use lines::{Fed, KEPT_MOST, State};
-use meter::{Estimates, Meter};
+use lines::{Fed, KEPT_MOST, Next, State};
+use meter::{Estimate, Estimates, Meter};
 use plan::Plan;
 
 // What a run of lines leaves: the account, in the parts that it is worked in, the characters kept of a line that has begun, the bytes
@@ -98,7 +97,7 @@ fn feed_lines(
     estimates: Estimates,
     queue: Queue,
     begun: usize,
-    line: &mut [u8],
+    line: &mut [u8; KEPT_MOST],
     holidays: &[u16],
     input: &[u8],
     out: &mut [u8],
@@ -112,8 +111,6 @@ fn feed_lines(
         (rows unpaid.new amount.new label.new) line.new out.new result }
     ensures long { Long unpaid.new amount.new label.new }
 {
-    let values = frames::value_table();
-    let pairs = answers::pair_table();
     let mut head = head;
     let mut estimates = estimates;
     let mut queue = queue;
@@ -121,23 +118,17 @@ fn feed_lines(
     let mut taken: usize = 0;
     let mut written: usize = 0;
     while taken < input.len() {
-        let next = lines::next_line(input, &values, taken, line, length, out.len() - written);
-        taken = next.taken;
-        length = next.length;
-        if !next.ended {
-            break;
-        }
-        let fields = next.fields;
+        let found = lines::next_line(input, taken, line, length, out.len() - written);
+        taken = found.taken;
+        length = found.length;
         let mut volumes = [0u32; 7];
-        let plan = if looks_back(head.standing, fields) {
-            plan::plans::plan_over(head, estimates, frames::call_of(fields), &mut volumes)
-        } else {
-            plan_line(head, fields, &mut volumes)
+        let Some(plan) = plan_line(head, estimates.standing(), found.next, &mut volumes) else {
+            break;
         };
         let entered = enter_plan(unpaid, amount, label, holidays, queue, plan);
         queue = entered.queue;
         head = head_after(entered.number, plan, head);
-        written = put_line(entered, plan, volumes, out, written, &pairs);
+        written += put_line(entered, plan, &volumes, &mut out[written..]);
         if head.standing != estimates.count {
             let change = plan.change;
             estimates = account::calls::changed(change, estimates);
@@ -153,31 +144,19 @@ fn feed_lines(
     }
 }
 
-// Whether a line looks at the estimates: so they are handed over only there.
-fn looks_back(standing: usize, fields: Fields) -> bool
-    requires { SmallIn fields }
-    ensures looks_back { result ≡ true → LooksBack fields }
-    ensures alone_in { result ≡ false → AloneIn standing fields }
+// The next line planned over the estimates that stand, where it has ended. 40: it is no frame.
+fn plan_line(head: Head, standing: &[Estimate], next: Next, volumes: &mut [u32; 7]) -> Option<Plan>
+    requires head_bounds { HeadBounds head }
+    requires standing_bounds { StandingBounds standing.now }
+    ensures { NextPlan head standing.now (read_as next) volumes.old result volumes.new }
 {
-    if standing == 0 {
-        return false;
+    match next {
+        Next::Waits => None,
+        Next::NoFrame => Some(plan::plans::quiet(40, head)),
+        Next::Frame(frame) => {
+            Some(plan::plans::plan_with(head, standing, Call::from(frame), volumes))
+        }
     }
-    if fields.width == 0 {
-        return false;
-    }
-    plan::plans::over(standing, frames::call_of(fields))
-}
-
-// A line planned on the head alone. 40: it is no frame.
-fn plan_line(head: Head, fields: Fields, volumes: &mut [u32; 7]) -> Plan
-    requires { LinePlannable head fields volumes.old }
-    ensures { (estimates : Estimates) → estimates.count ≡ head.standing
-        → PlanOf head estimates (parsed_by fields) volumes.old result volumes.new }
-{
-    if fields.width == 0 {
-        return plan::plans::quiet(40, head);
-    }
-    plan::plans::plan_call(head, frames::call_of(fields), volumes)
 }
 
 // What a plan asks of the ledger, entered where the items lie.
@@ -233,38 +212,27 @@ fn head_after(number: u8, plan: Plan, head: Head) -> Head
     }
 }
 
-// A line's answer, and the place behind it.
-fn put_line(
-    entered: Entered,
-    plan: Plan,
-    volumes: [u32; 7],
-    out: &mut [u8],
-    at: usize,
-    pairs: &[u8; 512],
-) -> usize
-    requires volumes_len { entered.number ≡ 0 → length (take plan.count volumes) ≡ plan.count }
-    requires longest_answer_in_bounds { at + longest_answer ≤ length out.old }
-    requires pair_table { PairTable pairs.now }
-    ensures out_after { out.new ≡ written out.old at (answer_line (answer_of entered plan volumes)) }
-    ensures value { result ≡ at + length (answer_line (answer_of entered plan volumes)) }
-    ensures upper_bound { result ≤ at + longest_answer }
+// A line's answer, at the front of `out`, and its length.
+fn put_line(entered: Entered, plan: Plan, volumes: &[u32; 7], out: &mut [u8]) -> usize
+    requires volumes_len { entered.number ≡ 0 → length (take plan.count volumes.now) ≡ plan.count }
+    requires room { longest_answer ≤ length out.old }
+    ensures out_after { out.new ≡ written out.old 0 (answer_line (answer_of entered plan volumes.now)) }
+    ensures value { result ≡ length (answer_line (answer_of entered plan volumes.now)) }
+    ensures upper_bound { result ≤ longest_answer }
 {
     let number = entered.number;
     if number != 0 {
-        return answers::put_refusal(number, out, at, pairs);
+        return answers::put_refusal(number, out);
     }
     let queue = entered.queue;
     answers::put_accepted(
         plan.estimated,
-        &volumes,
-        plan.count,
+        &volumes[..plan.count],
         plan.net,
         entered.interest,
         queue.owed,
         queue.credit,
         out,
-        at,
-        pairs,
     )
 }
 

@@ -6,8 +6,8 @@ ghost use Rattle.std.specs.Prelude.{◌≤◌};
 ghost use Rattle.figures.specs.Starred.{Starred};
 
 use account::Account;
-use calendar::{Date, Day, FoundDate, FoundDay};
-use meter::{Estimate, Estimates};
+use calendar::{Date, Day};
+use meter::Estimate;
 use std::io;
 use tariff::Fuel;
 
@@ -67,15 +67,10 @@ fn after_one_miss(rt: &impl Print, pool: u32) -> io::Result<()>
         volume: 30,
         charged: 6_650,
     };
-    let made = meter::final_volumes(
-        Estimates {
-            count: 1,
-            periods: [missed; 6],
-        },
-        pool,
-    );
+    let mut volumes = [0u32; 7];
+    meter::final_volumes(&[missed], pool, &mut volumes);
     print!(rt; "pool {pool} gives ")?;
-    number(rt, made.volumes[1] as u64)
+    number(rt, volumes[1] as u64)
 }
 
 fn range(rt: &impl Print) -> io::Result<()> {
@@ -99,11 +94,11 @@ fn dates(rt: &impl Print) -> io::Result<()> {
 fn date_of(rt: &impl Print, day: u32) -> io::Result<()> {
     print!(rt; "day {day} is ")?;
     match Day::to_date(day) {
-        FoundDate::Date(date) => number(
+        Some(date) => number(
             rt,
             date.year as u64 * 10_000 + date.month as u64 * 100 + date.day as u64,
         ),
-        FoundDate::None => text(rt, b"none\n"),
+        None => text(rt, b"none\n"),
     }
 }
 
@@ -124,13 +119,9 @@ fn days(rt: &impl Print) -> io::Result<()> {
 
 fn day_of(rt: &impl Print, year: u32, month: u32, day: u32) -> io::Result<()> {
     print!(rt; "date {year} {month} {day} is ")?;
-    match Day::from_date(Date {
-        year: year,
-        month: month,
-        day: day,
-    }) {
-        FoundDay::Day(found) => number(rt, found.number as u64),
-        FoundDay::None => text(rt, b"none\n"),
+    match Day::from_date(Date { year, month, day }) {
+        Some(found) => number(rt, found.number as u64),
+        None => text(rt, b"none\n"),
     }
 }
 

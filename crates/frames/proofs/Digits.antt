@@ -1,12 +1,13 @@
 -- Laws of digits. Assumes nothing.
+use Rattle.std.specs.Prelude.{Some, None}
 use Rattle.common.proofs.Words.{◌≡◌, refl, sym, ap, ◌∙◌, true, false, ◌&&◌, and-eq-true_iff, ◌⊎◌, inl, inr, ⊎_elim, List, [], ◌∷◌, ◌++◌, ℕ}
-use Rattle.common.proofs.Words.{zero, suc, ◌+◌, ◌-◌, ◌*◌, ◌/◌, ◌^◌, ◌≤◌, ◌<◌, add-zero, add-suc, suc-add, eq-or-lt_of_le, lt_of_lt_of_le}
-use Rattle.common.proofs.Words.{pow-suc, arith, add-one, leb, length, get_or, set, take, drop, length-append, take-suc, get_or-set_same}
-use Rattle.common.proofs.Words.{get_or-set_other, leb-true, le-leb, lt-leb, lt-ltb, le-ltb}
-use native.Mathlib.Nat.{ne_of_lt, pow-le-pow_right}
+use Rattle.common.proofs.Words.{zero, suc, ◌+◌, ◌-◌, ◌*◌, ◌/◌, ◌^◌, ◌≤◌, ◌<◌, add-zero, add-suc, suc-add, lt_of_lt_of_le}
+use Rattle.common.proofs.Words.{pow-suc, arith, add-one, leb, length, get_or, take, drop, length-append, take-suc}
+use Rattle.common.proofs.Words.{leb-true, le-leb, lt-leb, lt-ltb, le-ltb}
+use native.Mathlib.Nat.{pow-le-pow_right}
 use Rattle.lists.specs.Every.{every}
 use Rattle.common.proofs.Cases.{by_test}
-use Rattle.frames.specs.Digits.{is_digit, value_of, no_digit, value_or, glyph, digits, number_from, number_of, read_from, read_of}
+use Rattle.frames.specs.Digits.{is_digit, value_of, no_digit, value_or, glyph, digits, number_from, number_of, number_in, read_from, read_of}
 
 -- A digit is one of the two runs of characters.
 between : (a b c : ℕ) → (leb a c && leb c b) ≡ true → (a ≤ c) × (c ≤ b)
@@ -42,16 +43,6 @@ value_most c = by_test (is_digit c) (λ e. omega (arith, value_digit c e, value_
 pub char_of : (c k : ℕ) → k < 16 → value_or c ≡ k → c ≡ glyph k
 char_of c k h v =
     by_test (is_digit c) (λ e. glyph_value c e ∙ ap glyph (sym (value_digit c e) ∙ v)) (λ e. absurd (omega (arith, value_none c e)))
-
--- One place more of a table.
-abbrev pub Shows : List ℕ → ℕ → Type 0
-Shows table i = (c : ℕ) → c < i → get_or table c 0 ≡ value_or c
-
-pub shows_next : (table : List ℕ) (i : ℕ) → i < length table → Shows table i → Shows (set table i (value_or i)) (i + 1)
-shows_next table i h shown c k =
-    ⊎_elim (λ e. rw e (get_or-set_same table i (value_or i) 0 h))
-    (λ l. get_or-set_other table i c (value_or i) 0 (ne_of_lt l) ∙ shown c l)
-    (eq-or-lt_of_le {n = c} {m = i} (omega arith))
 
 -- One more digit behind others.
 pub number_snoc : (n : ℕ) (cs : List ℕ) (c : ℕ) → number_from n (cs ++ (c ∷ [])) ≡ number_from n cs * 16 + value_of c
@@ -127,6 +118,18 @@ pub read_below : (cs : List ℕ) (k : ℕ) → length cs ≤ k → every is_digi
 read_below cs k h e =
     let grown : number_of cs < 16 ^ (0 + length cs) = number_grown 0 0 cs (omega arith) e in
     rw (digits_read 0 cs e) (lt_of_lt_of_le grown (pow-le-pow_right {n = 16} (omega arith) {i = 0 + length cs} {j = k} (omega arith)))
+
+-- The number that digits show, by what is read of them.
+module _ (cs : List ℕ) where
+  pub number_found : read_of cs < no_digit → Some (read_of cs) ≡ number_in cs
+  number_found h = let digits = read_digits 0 cs h in rw (digits, digits_read 0 cs digits) refl
+
+  pub number_bound : read_of cs < no_digit → read_of cs < 16 ^ length cs
+  number_bound h = read_below cs (length cs) (omega arith) (read_digits 0 cs h)
+
+  pub number_missing : length cs ≤ 8 → no_digit ≤ read_of cs → None ≡ number_in cs
+  number_missing few h =
+      by_test (every is_digit cs) (λ digits. absurd (omega (arith, read_below cs 8 few digits))) (λ others. rw others refl)
 
 -- The length of a number in digits.
 pub length_digits : (base k n : ℕ) → length (digits base k n) ≡ k

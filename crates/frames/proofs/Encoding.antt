@@ -1,4 +1,5 @@
 -- Every call has a line that is read as that call, by the layout. Assumes nothing.
+use Rattle.std.specs.Prelude.{Option, Some, None}
 use Rattle.common.proofs.Words.{◌≡◌, refl, ap, ◌∙◌, true, cond, List, [], ◌∷◌, ◌++◌, append_assoc, ℕ, zero, suc, ◌+◌, ◌*◌, ◌/◌, ◌%◌, ◌^◌}
 use Rattle.common.proofs.Words.{◌<◌, pow-suc, arith, eqb, ltb, length, take, length-append, take_at, lt-leb, le-leb, ltb-true, ltb-false}
 use Rattle.common.proofs.Words.{eq-eqb}
@@ -12,7 +13,6 @@ use Rattle.intake.specs.declared.Call.{Call}
 use Rattle.frames.specs.Digits.{is_digit, value_of, glyph, digits, bytes, number_of}
 use Rattle.frames.specs.Layout.{Make, Row, layout, size_of, widths_of, field, filled, framed, told_of}
 use Rattle.frames.specs.Frames.{parsed, widths_in, values_in, packed, encoded, Fit}
-use Rattle.frames.specs.{declared.Parsed.Parsed, declared.Parsed.TheVariants.Frame, declared.Parsed.TheVariants.NotAFrame}
 use Rattle.frames.proofs.{Digits.number_snoc, Digits.length_digits, Frames.frame_at, Frames.parsed_digits}
 
 -- The character of a digit shows it.
@@ -63,18 +63,18 @@ field_behind before rest from w v l h =
     number_digits (2 * w) v h
 
 -- What a row makes of values in their order.
-abbrev given : (ws : List ℕ) → Make ws → List ℕ → Parsed
-given [] call [] = Frame call
-given [] call (v ∷ vs) = NotAFrame
-given (w ∷ ws) make [] = NotAFrame
+abbrev given : (ws : List ℕ) → Make ws → List ℕ → Option Call
+given [] call [] = Some call
+given [] call (v ∷ vs) = None
+given (w ∷ ws) make [] = None
 given (w ∷ ws) make (v ∷ vs) = given ws (make v) vs
 
-abbrev remade : List Row → ℕ → List ℕ → Parsed
-remade [] kind vs = NotAFrame
+abbrev remade : List Row → ℕ → List ℕ → Option Call
+remade [] kind vs = None
 remade (r ∷ rs) kind vs = cond (eqb kind r.kind) (given r.widths r.make vs) (remade rs kind vs)
 
 filled_packed : (before : List ℕ) (from : ℕ) (ws : List ℕ) (make : Make ws) (vs : List ℕ) → length before ≡ 2 * from → Fit ws vs
-    → Frame (filled ws make from (before ++ packed ws vs)) ≡ given ws make vs
+    → Some (filled ws make from (before ++ packed ws vs)) ≡ given ws make vs
 filled_packed before from [] make [] l fit = refl
 filled_packed before from [] make (v ∷ vs) l fit = absurd fit
 filled_packed before from (w ∷ ws) make [] l fit = absurd fit
@@ -100,7 +100,7 @@ module _ (kind : ℕ) (vs : List ℕ) where
       (λ e. rw e (framed_packed rs (rw e at fit)))
 
 -- A row tells its call.
-told : (call : Call) → remade layout (told_of call).kind (told_of call).values ≡ Frame call
+told : (call : Call) → remade layout (told_of call).kind (told_of call).values ≡ Some call
 told (Opening day reading digits) = refl
 told (Reading day reading fuel) = refl
 told (Missed day fuel) = refl
@@ -113,7 +113,7 @@ told (Payment day yen) = refl
 told (StoppedCancellation day) = refl
 
 -- Every call is what its line is read as: no two calls share a line, and no frame is out of reach.
-pub decoded : (call : Call) → Fit (widths_in call) (values_in call) → parsed (encoded call) ≡ Frame call
+pub decoded : (call : Call) → Fit (widths_in call) (values_in call) → parsed (encoded call) ≡ Some call
 unfolding encoded
 decoded call fit =
     let kind : ℕ = (told_of call).kind in

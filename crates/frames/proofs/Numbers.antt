@@ -1,19 +1,21 @@
--- Laws of frames as numbers: fields read from a line, or where it lies in an input, are those of the layout. Assumes nothing.
-use Rattle.common.proofs.Words.{◌≡◌, refl, sym, ap, subst, ◌∙◌, Bool, true, false, cond, inl, inr, ⊎_elim, List, [], ◌∷◌, ℕ, zero, suc, ◌+◌}
-use Rattle.common.proofs.Words.{◌^◌, ◌≤◌, ◌<◌, zero-add, add-zero, arith, eqb, leb, length, get_or, take, drop, length-drop, length-take-le}
-use Rattle.common.proofs.Words.{take_all, take-add, drop-drop, take-take, get_or-take, get_or-drop, eq-eqb, ne_eqb, eqb-true, leb-true}
-use Rattle.lists.specs.Every.{every, Every}
-use Rattle.lists.proofs.{Every.every_true, Every.every_behind, Pad.length_take_most}
+-- Laws of frames as numbers: the fields read in some bytes are those of the frame that begins them. Assumes nothing.
+use Rattle.std.specs.Prelude.{Some, None}
+use Rattle.std.specs.List.{between}
+use Rattle.std.proofs.lemmas.Option.{cond_some}
+use Rattle.common.proofs.Words.{true≢false, ◌≡◌, refl, sym, ap, subst, ◌∙◌, true, cond, List, [], ◌∷◌, ℕ, zero, suc, ◌+◌, ◌-◌}
+use Rattle.common.proofs.Words.{◌≤◌, ◌<◌, zero-add, arith, eqb, leb, leb-true, leb-false, length, get_or, take, drop, length-take-le, rules}
+use Rattle.common.proofs.Words.{take-add, take-take, get_or-take, eq-eqb, eqb-true}
+use Rattle.lists.specs.Every.{every}
+use Rattle.common.proofs.Cases.{by_test, by_order}
+use Rattle.lists.proofs.Every.{every_true, every_in_front, every_behind}
 use Rattle.intake.specs.declared.Call.{Call}
-use Rattle.frames.specs.Digits.{is_digit, value_of, no_digit, value_or, glyph, number_of, read_of, line_feed}
-use Rattle.frames.specs.Numbers.{widths, no_widths, shape_of, widths_by, call_by, call_of, fields_of, no_fields, parsed_by, Small, SmallIn}
-use Rattle.frames.specs.Numbers.{SoundIn, Checked, ReadIn, ReadAt, Begins, Any2, Any3}
-use Rattle.frames.specs.{declared.Parsed.TheVariants.Frame, declared.Parsed.TheVariants.NotAFrame, declared.Fields.Fields}
-use Rattle.frames.specs.{declared.Widths.Widths, Layout.Row, Layout.layout, Layout.longest_frame, Layout.framed}
-use Rattle.frames.specs.Frames.{kind_of, parsed}
-use Rattle.frames.proofs.Digits.{value_digit, digits_part, read_digits, digits_read, read_below}
-use Rattle.frames.proofs.Frames.{frame_at, parsed_digits, no_frame, begins_with, digits_begin, kind_is, KindOf, kind_or_not}
-use Rattle.frames.proofs.Frames.{unknown_widths, unknown_kind}
+use Rattle.frames.specs.Digits.{is_digit, value_of, value_or, number_of, number_in, line_feed}
+use Rattle.frames.specs.Numbers.{number_of_kind, character_of, Widths, widths, widths_by, call_by, Begins, FrameAt, BeginsKind}
+use Rattle.frames.specs.{declared.FrameKind.FrameKind, Layout.layout, Layout.longest_frame, Layout.framed, Frames.kind_of, Frames.parsed}
+use Rattle.frames.specs.declared.FrameKind.TheVariants.{Opening, Reading, Missed, Absent, Exchange, Disconnection, Reconnection, Cancellation}
+use Rattle.frames.specs.declared.FrameKind.TheVariants.{Payment, StoppedCancellation}
+use Rattle.frames.proofs.Digits.{value_digit, digits_part}
+use Rattle.frames.proofs.Frames.{frame_at, parsed_digits, parsed_others, too_short, other_first, begins_with, digits_begin, kind_is, unknown_kind}
 
 -- A part of a front.
 part_of : (k m n : ℕ) (xs : List ℕ) → k + m ≤ n → take m (drop k (take n xs)) ≡ take m (drop k xs)
@@ -22,304 +24,219 @@ part_of (suc k) m zero xs h = absurd (omega arith)
 part_of (suc k) m (suc n) [] h = refl
 part_of (suc k) m (suc n) (x ∷ xs) h = part_of k m n xs (omega arith)
 
--- What is read of a line, so many characters from a place on, and the number that they show.
-abbrev read_from_at : List ℕ → ℕ → ℕ → ℕ
-read_from_at line from width = read_of (take width (drop from line))
-
 abbrev number_at : List ℕ → ℕ → ℕ → ℕ
 number_at line from width = number_of (take width (drop from line))
 
-pub record Reads (line : List ℕ) (from width n : ℕ) : Type 0 where
-  pub is : n ≡ read_from_at line from width
-
-module _ {line : List ℕ} {from width n : ℕ} (r : Reads line from width n) where
-  digits_on : every is_digit (take from line) ≡ true → n < no_digit → every is_digit (take (from + width) line) ≡ true
-  digits_on e h =
-      let part = take width (drop from line) in
-      rw (take-add from width line) (every_behind is_digit (take from line) part e (read_digits 0 part (rw r.is at h)))
-
-  number_is : every is_digit line ≡ true → number_at line from width ≡ n
-  number_is e = sym (r.is ∙ digits_read 0 (take width (drop from line)) (digits_part from width line e))
-
-  below : (k : ℕ) → width ≤ k → every is_digit line ≡ true → n < 16 ^ k
-  below k h e =
-      let part = take width (drop from line) in
-      rw r.is (read_below part k (omega (arith, length_take_most width (drop from line))) (digits_part from width line e))
-
--- Where the second, the third and the short field begin.
-abbrev pub second_at : Widths → ℕ
+-- Where the second, the third and the short field begin, and where the frame ends.
+abbrev second_at : Widths → ℕ
 second_at w = 6 + w.first
 
-abbrev pub third_at : Widths → ℕ
+abbrev third_at : Widths → ℕ
 third_at w = second_at w + w.second
 
-abbrev pub short_at : Widths → ℕ
+abbrev short_at : Widths → ℕ
 short_at w = third_at w + w.third
 
+abbrev end_of : Widths → ℕ
+end_of w = short_at w + w.short
+
 -- The call that the fields of a line make, by their widths.
-abbrev called_in : ℕ → Widths → List ℕ → Call
-called_in char w line =
-    call_by char (number_at line 2 4) (number_at line 6 w.first) (number_at line (second_at w) w.second)
+abbrev called_in : FrameKind → Widths → List ℕ → Call
+called_in kind w line =
+    call_by kind (number_at line 2 4) (number_at line 6 w.first) (number_at line (second_at w) w.second)
     (number_at line (third_at w) w.third) (number_at line (short_at w) w.short)
 
-abbrev tests : Widths → List Bool
-tests w =
-    eqb w.size (short_at w + w.short)
-    ∷ leb w.size longest_frame
-    ∷ leb w.first 8
-    ∷ leb w.second 8
-    ∷ leb w.third 8
-    ∷ leb w.short 2
-    ∷ []
-
-pub record Bounds (w : Widths) : Type 0 where
-  pub size_is : w.size ≡ short_at w + w.short
-  pub size_most : w.size ≤ longest_frame
+-- A row as numbers: its character, the widths of its fields, and its call.
+pub record Row (kind : FrameKind) (w : Widths) : Type 0 where
+  pub digit : is_digit (character_of kind) ≡ true
+  pub value : value_of (character_of kind) ≡ number_of_kind kind
   pub first_most : w.first ≤ 8
   pub second_most : w.second ≤ 8
   pub third_most : w.third ≤ 8
   pub short_most : w.short ≤ 2
+  pub end_most : end_of w ≤ longest_frame
+  pub told : (size : ℕ) (line : List ℕ)
+      → framed layout size (number_of_kind kind) line ≡ cond (eqb size (end_of w)) (Some (called_in kind w line)) None
 
--- A row as numbers: its kind, the widths of its fields, and its call.
-record Kind (char : ℕ) (w : Widths) : Type 0 where
-  digit : is_digit char ≡ true
-  small : every (λ t. t) (tests w) ≡ true
-  told : (size : ℕ) (line : List ℕ)
-      → framed layout size (value_or char) line ≡ cond (eqb size w.size) (Frame (called_in char w line)) NotAFrame
+row_by : (kind : FrameKind) → Row kind (widths_by kind)
+unfolding is_digit
+row_by Opening = search rules depth 30
+row_by Reading = search rules depth 30
+row_by Missed = search rules depth 30
+row_by Absent = search rules depth 30
+row_by Exchange = search rules depth 30
+row_by Disconnection = search rules depth 30
+row_by Reconnection = search rules depth 30
+row_by Cancellation = search rules depth 30
+row_by Payment = search rules depth 30
+row_by StoppedCancellation = search rules depth 30
 
--- What holds of each row's kind holds of a kind, and what is no row's kind is none.
-by_row : (P : ℕ → Type 0) (rows : List Row) (char : ℕ) → Every (λ r. P (glyph r.kind)) rows → KindOf rows char → P char
-by_row P [] char e k = absurd k
-by_row P (r ∷ rs) char e (inl k) = rw k e.0
-by_row P (r ∷ rs) char e (inr k) = by_row P rs char e.1 k
+-- What is read as a call has digits only.
+pub call_digits : (line : List ℕ) {call : Call} → parsed line ≡ Some call → every is_digit line ≡ true
+call_digits line e = by_test (every is_digit line) (λ d. d) (λ d. absurd (let none = parsed_others line d in cc))
 
-pub no_kind : (rows : List Row) (char : ℕ) → Every (λ r. char ≡ glyph r.kind → ⊥) rows → KindOf rows char → ⊥
-no_kind rows char e k = by_row (λ c. char ≡ c → ⊥) rows char e k refl
-
-kind_by : (char : ℕ) → KindOf layout char → Kind char (widths_by char)
-unfolding value_or is_digit
-kind_by char k = by_row (λ c. Kind c (widths_by c)) layout char (search depth 30) k
-
--- The kinds by the form of their fields.
-pub record Form (char : ℕ) (w : Widths) : Type 0 where
-  pub kind : KindOf layout char
-  pub is : widths_by char ≡ w
-
-known : {char : ℕ} {w : Widths} → Form char w → Kind char w
-known {char} f = subst (Kind char) f.is (kind_by char f.kind)
-
-pub bounds_in : {char : ℕ} {w : Widths} → Form char w → Bounds w
-bounds_in {w = w} f =
-    let t = every_true (λ t. t) (tests w) (known f).small in
-    record {
-      size_is = eqb-true w.size (short_at w + w.short) t.0;
-      size_most = leb-true w.size longest_frame t.1.0;
-      first_most = leb-true w.first 8 t.1.1.0;
-      second_most = leb-true w.second 8 t.1.1.1.0;
-      third_most = leb-true w.third 8 t.1.1.1.1.0;
-      short_most = leb-true w.short 2 t.1.1.1.1.1.0;
-    }
-
-pub no_form : (char : ℕ) → (KindOf layout char → ⊥) → widths_by char ≡ no_widths
-no_form char n = ap shape_of (unknown_widths char n)
-
-pub sized_form : (char : ℕ) → 6 ≤ (widths_by char).size → Form char (widths_by char)
-sized_form char h =
-    ⊎_elim (λ k. record { kind = k; is = refl })
-    (λ n. absurd (omega (arith, ap (λ (w : Widths). w.size) (no_form char n))))
-    (kind_or_not layout char)
-
-form_of : (n : ℕ) {char : ℕ} → 6 ≤ (widths_by n).size → char ≡ n → Form char (widths_by n)
-form_of n h e = rw e (sized_form n h)
-
-pub closing_form : {char : ℕ} → Any3 50 54 56 char → Form char (widths 8 8 8 0)
-unfolding value_or is_digit
-closing_form (inl e) = form_of 50 (omega arith) e
-closing_form (inr (inl e)) = form_of 54 (omega arith) e
-closing_form (inr (inr e)) = form_of 56 (omega arith) e
-
-pub estimate_form : {char : ℕ} → Any2 51 52 char → Form char (widths 8 8 0 0)
-unfolding value_or is_digit
-estimate_form (inl e) = form_of 51 (omega arith) e
-estimate_form (inr e) = form_of 52 (omega arith) e
-
-pub dial_form : {char : ℕ} → Any2 49 55 char → Form char (widths 8 0 0 2)
-unfolding value_or is_digit
-dial_form (inl e) = form_of 49 (omega arith) e
-dial_form (inr e) = form_of 55 (omega arith) e
-
-pub exchange_form : {char : ℕ} → char ≡ 53 → Form char (widths 8 8 0 2)
-unfolding value_or is_digit
-exchange_form e = form_of 53 (omega arith) e
-
-pub payment_form : {char : ℕ} → char ≡ 57 → Form char (widths 8 0 0 0)
-unfolding value_or is_digit
-payment_form e = form_of 57 (omega arith) e
-
-pub stopped_form : {char : ℕ} → char ≡ 97 → Form char (widths 0 0 0 0)
-unfolding value_or is_digit
-stopped_form e = form_of 97 (omega arith) e
-
--- A line of the size of its kind, and the fields that were read in their places.
-pub record Stands (line : List ℕ) (w : Widths) (f : Fields) : Type 0 where
-  pub form : Form f.kind w
-  pub nought : get_or line 0 0 ≡ 48
-  pub kind : get_or line 1 0 ≡ f.kind
-  pub long : length line ≡ w.size
-  pub width_is : f.width ≡ w.size
-  pub day : Reads line 2 4 f.day
-  pub first : Reads line 6 w.first f.first
-  pub second : Reads line (second_at w) w.second f.second
-  pub third : Reads line (third_at w) w.third f.third
-  pub short : Reads line (short_at w) w.short f.short
-
--- Of a frame that begins with 0, the kind is its second character's.
+-- Of a line that begins with 0, the kind is its second character's.
 second_kind : (line : List ℕ) (char : ℕ) → 2 ≤ length line → get_or line 0 0 ≡ 48 → get_or line 1 0 ≡ char → is_digit char ≡ true
-    → kind_of line ≡ value_or char
-second_kind line char two z k d = kind_is line two ∙ rw (z, k, value_digit char d) (zero-add (value_of char))
+    → kind_of line ≡ value_of char
+second_kind line char two z k d = kind_is line two ∙ rw (z, k) (zero-add (value_of char))
 
 two_digits : (char : ℕ) → is_digit char ≡ true → every is_digit (48 ∷ char ∷ []) ≡ true
 unfolding is_digit
 two_digits char d = rw d
 
-none_small : Small 0 0 0 0 0
-none_small = omega arith
+-- A frame has more than a kind's two characters.
+six_long : (line : List ℕ) {call : Call} → parsed line ≡ Some call → 6 ≤ length line
+six_long line e =
+    by_test (leb 6 (length line)) (leb-true 6 (length line))
+    (λ short. absurd (let none = too_short line (leb-false 6 (length line) short) in cc))
 
-pub none_read : (line : List ℕ) {r : Fields} → r ≡ no_fields → parsed line ≡ NotAFrame → ReadIn line r
-none_read line e n = rw e (record { is = n; small = none_small })
+-- A frame that begins some bytes, as a line.
+module _ {bytes : List ℕ} {call : Call} {width : ℕ} (b : Begins bytes call width) where
+  abbrev front : List ℕ
+  front = take width bytes
 
-module _ {line : List ℕ} {w : Widths} {f : Fields} (s : Stands line w f) where
-  row : Kind f.kind w
-  row = known s.form
+  front_long : length front ≡ width
+  front_long = length-take-le width bytes (omega (arith, b.room, b.within))
 
-  b : Bounds w
-  b = bounds_in s.form
+  front_six : 6 ≤ width
+  front_six = omega (arith, front_long, six_long front b.frame)
 
-  two_long : 2 ≤ length line
-  two_long = omega (arith, s.long, b.size_is)
+  front_at : (i : ℕ) → i < 6 → get_or front i 0 ≡ get_or bytes i 0
+  front_at i h = get_or-take width bytes i 0 (omega (arith, front_six))
 
-  sound_digits : (last : ℕ) → SoundIn f last → every is_digit line ≡ true
-  sound_digits last t =
-      let two : every is_digit (take 2 line) ≡ true =
-      rw (begins_with line two_long, s.nought, s.kind) (two_digits f.kind row.digit) in
-      let six = digits_on s.day two t.in_day in
-      let one = digits_on s.first six t.in_first in
-      let more = digits_on s.second one t.in_second in
-      let three = digits_on s.third more t.in_third in
-      let all = digits_on s.short three t.in_short in
-      rw (take_all (short_at w + w.short) line (omega (arith, s.long, b.size_is))) at all
+  front_digits : every is_digit front ≡ true
+  front_digits = call_digits front b.frame
 
-  digits_sound : every is_digit line ≡ true → SoundIn f line_feed
-  digits_sound e =
-      record {
-        in_day = below s.day 8 (omega arith) e;
-        in_first = below s.first 8 b.first_most e;
-        in_second = below s.second 8 b.second_most e;
-        in_third = below s.third 8 b.third_most e;
-        in_short = below s.short 8 (omega (arith, b.short_most)) e;
-        ends = refl;
-      }
+pub digit_no_end : (c : ℕ) → is_digit c ≡ true → c ≡ line_feed → ⊥
+unfolding is_digit
+digit_no_end c e l = true≢false (sym (rw l at e))
 
-  digits_small : every is_digit line ≡ true → SmallIn f
-  digits_small e =
-      let t = digits_sound e in
-      record {
-        in_day = below s.day 4 (omega arith) e;
-        in_first = t.in_first;
-        in_second = t.in_second;
-        in_third = t.in_third;
-        in_short = below s.short 2 b.short_most e;
-      }
+-- One frame at most begins them: no LF stands in it.
+module _ {bytes : List ℕ} {call : Call} {width : ℕ} (b : Begins bytes call width) where
+  none_longer : {other : Call} {long : ℕ} → Begins bytes other long → width < long → ⊥
+  none_longer {long = long} l h =
+      let digit =
+      every_in_front (λ c. is_digit c ≡ true) bytes long width 0 h (omega (arith, b.room, b.within))
+      (every_true is_digit (take long bytes) (front_digits l)) in
+      digit_no_end (get_or bytes width 0) digit b.ends
 
-  digits_frame : every is_digit line ≡ true → parsed line ≡ Frame (call_of f)
-  digits_frame e =
-      let kind = second_kind line f.kind two_long s.nought s.kind row.digit in
-      let day = number_is s.day e in
-      let first = number_is s.first e in
-      let second = number_is s.second e in
-      let third = number_is s.third e in
-      let short = number_is s.short e in
-      parsed_digits line e ∙
-      frame_at line w.size (value_or f.kind) s.long kind ∙
-      row.told w.size line ∙
-      ap (λ t. cond t (Frame (called_in f.kind w line)) NotAFrame) (eq-eqb w.size w.size refl) ∙
-      (λ i. Frame (call_by f.kind (day i) (first i) (second i) (third i) (short i)))
+pub begins_once : {bytes : List ℕ} {a b : Call} {m n : ℕ} → Begins bytes a m → Begins bytes b n → m ≡ n
+begins_once {m = m} {n} a b =
+    by_order m n (λ less. absurd (none_longer a b less))
+    (λ most. by_order n m (λ less. absurd (none_longer b a less)) (λ least. omega arith))
 
-  -- A line by itself.
-  pub read_in : {r : Fields} → Checked f line_feed r → ReadIn line r
-  read_in (inl p) =
-      let e = sound_digits line_feed p.1 in
-      let found : eqb f.width 0 ≡ false = ne_eqb f.width 0 (λ z. omega (arith, s.width_is, b.size_is)) in
-      let is : parsed line ≡ parsed_by f = digits_frame e ∙ rw found in
-      rw p.0 (record { is = is; small = digits_small e })
-  read_in (inr p) = none_read line p.0 (no_frame line (λ e. absurd (p.1 (digits_sound e))))
+-- No frame begins with another character than 0,
+pub other_beginning : {bytes : List ℕ} → (get_or bytes 0 0 ≡ 48 → ⊥) → FrameAt bytes None
+other_beginning {bytes} n call width b =
+    let text = take width bytes in
+    let none = other_first text (omega (arith, front_long b, front_six b)) (λ e. n (sym (front_at b 0 (omega arith)) ∙ e)) in
+    absurd (let found = b.frame in cc)
 
--- A line of another size than its kind's.
-pub other_size : (line : List ℕ) (char : ℕ) → 2 ≤ length line → get_or line 0 0 ≡ 48 → get_or line 1 0 ≡ char
-    → (length line ≡ (widths_by char).size → ⊥) → parsed line ≡ NotAFrame
-other_size line char two z k n =
-    let size = length line in
-    let called = Frame (called_in char (widths_by char) line) in
-    let none : framed layout size (value_or char) line ≡ NotAFrame =
-    ⊎_elim (λ row. (kind_by char row).told size line ∙ ap (λ t. cond t called NotAFrame) (ne_eqb size (widths_by char).size n))
-    (unknown_kind char size line)
-    (kind_or_not layout char) in
-    no_frame line
-    (λ e. frame_at line size (value_or char) refl (second_kind line char two z k (rw k at (digits_begin line two e).1.0)) ∙ none)
+-- or with a character that no kind has.
+pub other_kind : {bytes : List ℕ} → get_or bytes 0 0 ≡ 48 → ((kind : FrameKind) → get_or bytes 1 0 ≡ character_of kind → ⊥)
+    → FrameAt bytes None
+other_kind {bytes} z n call width b =
+    let text = take width bytes in
+    let two : 2 ≤ length text = omega (arith, front_long b, front_six b) in
+    let character = get_or text 1 0 in
+    let digit = (digits_begin text two (front_digits b)).1.0 in
+    let kind_is = second_kind text character two (front_at b 0 (omega arith) ∙ z) refl digit ∙ sym (value_digit character digit) in
+    let none =
+    parsed_digits text (front_digits b) ∙ frame_at text width (value_or character) (front_long b) kind_is ∙
+    unknown_kind character width text (λ kind e. n kind (sym (front_at b 1 (omega arith)) ∙ e)) in
+    absurd (let found = b.frame in cc)
 
--- The same where a line lies in an input: the fields that were read from a place on.
-module _ {input : List ℕ} {at kind day first second third short : ℕ} {w : Widths} (begins : Begins input at kind) (form : Form kind w)
-    (day_is : day ≡ read_from_at input (at + 2) 4)
-    (first_is : first ≡ read_from_at input (at + 6) w.first)
-    (second_is : second ≡ read_from_at input (at + second_at w) w.second)
-    (third-is : third ≡ read_from_at input (at + third_at w) w.third)
-    (short-is : short ≡ read_from_at input (at + short_at w) w.short) where
+-- Bytes that begin with a kind's two characters.
+module _ {bytes : List ℕ} {kind : FrameKind} {first second third short : ℕ} (k : BeginsKind bytes kind first second third short) where
+  abbrev w : Widths
+  w = widths first second third short
+
+  abbrev end : ℕ
+  end = end_of w
+
+  pub row : Row kind w
+  row = subst (Row kind) k.widths_are (row_by kind)
+
   abbrev line : List ℕ
-  line = take w.size (drop at input)
+  line = take end bytes
 
-  abbrev fields : Fields
-  fields = fields_of w.size kind day first second third short
+  line_long : length line ≡ end
+  line_long = length-take-le end bytes (omega (arith, k.room, row.end_most))
 
-  most : Bounds w
-  most = bounds_in form
+  -- A frame that begins them has the size of its kind.
+  size_is : {call : Call} {width : ℕ} → Begins bytes call width → width ≡ end
+  size_is {width = width} b =
+      let text = take width bytes in
+      let two : 2 ≤ length text = omega (arith, front_long b, front_six b) in
+      let kind_is = second_kind text (character_of kind) two (front_at b 0 (omega arith) ∙ k.zero)
+      (front_at b 1 (omega arith) ∙ k.second_character) row.digit ∙ row.value in
+      let told = sym (parsed_digits text (front_digits b) ∙ frame_at text width (number_of_kind kind) (front_long b) kind_is ∙ row.told width text)
+      ∙ b.frame in
+      eqb-true width end (cond_some (eqb width end) (called_in kind w text) _ told).0
 
-  here : {n k m : ℕ} → k + m ≤ w.size → n ≡ read_from_at input (at + k) m → Reads line k m n
-  here {k = k} {m = m} h e =
-      record { is = e ∙ ap read_of (sym (part_of k m w.size (drop at input) h ∙ ap (take m) (drop-drop k at input))) }
+  line_digits : {call : Call} {width : ℕ} → Begins bytes call width → every is_digit line ≡ true
+  line_digits b = rw (size_is b) at (front_digits b)
 
-  char_here : (k c : ℕ) → k < w.size → get_or input (at + k) 0 ≡ c → get_or line k 0 ≡ c
-  char_here k c h e = get_or-take w.size (drop at input) k 0 h ∙ get_or-drop at input k 0 ∙ e
+  -- No frame begins them where no LF stands behind that size,
+  pub no_end : (get_or bytes end 0 ≡ line_feed → ⊥) → FrameAt bytes None
+  no_end n call width b = n (rw (size_is b) at b.ends)
 
-  stands_here : Stands line w fields
-  stands_here =
-      let size = most.size_is in
+  -- or where a part of it is no number.
+  pub no_part : (from to : ℕ) → from ≤ to → to ≤ end → None ≡ number_in (between from to bytes) → FrameAt bytes None
+  no_part from to h l none call width b =
+      let part = between from to bytes in
+      let digits : every is_digit part ≡ true =
+      rw (part_of from (to - from) end bytes (omega arith)) at (digits_part from (to - from) line (line_digits b)) in
+      absurd (let is : number_in part ≡ Some (number_of part) = rw digits refl in cc)
+
+  -- Else they begin with the frame of the numbers.
+  record Reads (from to n : ℕ) : Type 0 where
+    is : Some n ≡ number_in (between from to bytes)
+
+  module _ {from to n : ℕ} (r : Reads from to n) where
+    digits_on : from ≤ to → every is_digit (take from bytes) ≡ true → every is_digit (take to bytes) ≡ true
+    digits_on h e =
+        let part = between from to bytes in
+        let all : from + (to - from) ≡ to = omega arith in
+        let more = every_behind is_digit (take from bytes) part e (cond_some _ _ _ (sym r.is)).0 in
+        rw (← take-add from (to - from) bytes, all) at more
+
+    number_is : (m : ℕ) → from + m ≡ to → to ≤ end → number_at line from m ≡ n
+    number_is m h l =
+        let same : to - from ≡ m = omega arith in
+        rw (part_of from m end bytes (omega arith)) (rw same at (cond_some _ _ _ (sym r.is)).1)
+
+  pub numbers_begin : {day a b c d : ℕ} → get_or bytes end 0 ≡ line_feed → Some day ≡ number_in (between 2 6 bytes)
+      → Some a ≡ number_in (between 6 (second_at w) bytes) → Some b ≡ number_in (between (second_at w) (third_at w) bytes)
+      → Some c ≡ number_in (between (third_at w) (short_at w) bytes) → Some d ≡ number_in (between (short_at w) end bytes)
+      → Begins bytes (call_by kind day a b c d) end
+  numbers_begin {day} {a} {b} {c} {d} ends day_is a_is b_is c_is d_is =
+      let day_read : Reads 2 6 day = record { is = day_is } in
+      let first_read : Reads 6 (second_at w) a = record { is = a_is } in
+      let second_read : Reads (second_at w) (third_at w) b = record { is = b_is } in
+      let third_read : Reads (third_at w) (short_at w) c = record { is = c_is } in
+      let short_read : Reads (short_at w) end d = record { is = d_is } in
+      let two : every is_digit (take 2 bytes) ≡ true =
+      rw (begins_with bytes (omega (arith, k.room)), k.zero, k.second_character) (two_digits (character_of kind) row.digit) in
+      let six = digits_on day_read (omega arith) two in
+      let one = digits_on first_read (omega arith) six in
+      let more = digits_on second_read (omega arith) one in
+      let three = digits_on third_read (omega arith) more in
+      let all = digits_on short_read (omega arith) three in
+      let day_number = number_is day_read 4 (omega arith) (omega arith) in
+      let first_number = number_is first_read first (omega arith) (omega arith) in
+      let second_number = number_is second_read second (omega arith) (omega arith) in
+      let third_number = number_is third_read third (omega arith) (omega arith) in
+      let short_number = number_is short_read short (omega arith) (omega arith) in
+      let kind_is =
+      second_kind line (character_of kind) (omega (arith, line_long)) (get_or-take end bytes 0 0 (omega arith) ∙ k.zero)
+      (get_or-take end bytes 1 0 (omega arith) ∙ k.second_character) row.digit ∙ row.value in
       record {
-        form = form;
-        nought = char_here 0 48 (omega arith) (rw (add-zero at) begins.zero);
-        kind = char_here 1 kind (omega arith) begins.second;
-        long = length-take-le w.size (drop at input) (rw (length-drop at input) (omega (arith, begins.room, most.size_most)));
-        width_is = refl;
-        day = here (omega arith) day_is;
-        first = here (omega arith) first_is;
-        second = here (omega arith) second_is;
-        third = here (omega arith) third-is;
-        short = here (omega arith) short-is;
+        room = k.room;
+        within = row.end_most;
+        ends = ends;
+        frame =
+            parsed_digits line all ∙ frame_at line end (number_of_kind kind) line_long kind_is ∙ row.told end line ∙
+            ap (λ t. cond t (Some (called_in kind w line)) None) (eq-eqb end end refl) ∙
+            (λ i. Some (call_by kind (day_number i) (first_number i) (second_number i) (third_number i) (short_number i)));
       }
-
-  pub read_at : {r : Fields} → Checked fields (get_or input (at + w.size) 0) r → (r.width ≡ 0 → ⊥) → ReadAt input at r
-  read_at (inl q) h =
-      let e = sound_digits stands_here (get_or input (at + w.size) 0) q.1 in
-      let within : at + w.size < length input = omega (arith, most.size_most, begins.room) in
-      rw q.0
-      (record {
-        lies = record { within = within; ends = q.1.ends; frame = digits_frame stands_here e };
-        small = digits_small stands_here e;
-      })
-  read_at (inr q) h = absurd (h (ap (λ (g : Fields). g.width) q.0))
-
--- By the width that was read.
-pub parsed_none : (f : Fields) → f.width ≡ 0 → parsed_by f ≡ NotAFrame
-parsed_none f e = rw (eq-eqb f.width 0 e)
-
-pub parsed_frame : (f : Fields) → (f.width ≡ 0 → ⊥) → parsed_by f ≡ Frame (call_of f)
-parsed_frame f n = rw (ne_eqb f.width 0 n)

@@ -1,5 +1,6 @@
 -- Numbers as text, in ASCII.
-use Rattle.std.specs.Prelude.{Bool, cond, ◌&&◌, ◌||◌, List, [], ◌∷◌, ◌++◌, ◌≡◌, ℕ, zero, suc, ◌+◌, ◌-◌, ◌*◌, ◌/◌, ◌%◌, ◌<◌}
+use Rattle.std.specs.Prelude.{Bool, cond, ◌&&◌, ◌||◌, List, [], ◌∷◌, ◌++◌, ◌≡◌, Option, Some, None, ℕ, zero, suc, ◌+◌, ◌-◌, ◌*◌, ◌/◌, ◌%◌, ◌<◌}
+use Rattle.lists.specs.Every.{every}
 use lib.{Dec.leb, Dec.ltb, ListN.length, ListN.get_or, Seq.sets}
 
 abbrev pub line_feed : ℕ
@@ -19,11 +20,6 @@ no_digit = 4294967296
 unfoldable pub value_or : ℕ → ℕ
 value_or c = cond (is_digit c) (value_of c) no_digit
 
--- A list that shows this of every character at its number.
-pub record ValueTable (table : List ℕ) : Type 0 where
-  pub long : length table ≡ 256
-  pub shows : (c : ℕ) → c < 256 → get_or table c 0 ≡ value_or c
-
 -- What characters come to, digits or not, the most significant first.
 abbrev pub read_from : ℕ → List ℕ → ℕ
 read_from n [] = n
@@ -35,12 +31,6 @@ read_of cs = read_from 0 cs
 abbrev pub glyph : ℕ → ℕ
 glyph d = cond (ltb d 10) (48 + d) (87 + d)
 
--- The two characters of every byte, one pair behind the other.
-pub record PairTable (pairs : List ℕ) : Type 0 where
-  pub long : length pairs ≡ 512
-  pub high : (b : ℕ) → b < 256 → get_or pairs (2 * b) 0 ≡ glyph (b / 16)
-  pub low : (b : ℕ) → b < 256 → get_or pairs (2 * b + 1) 0 ≡ glyph (b % 16)
-
 -- Big-endian: the number that hexadecimal digits show, the most significant first.
 abbrev pub number_from : ℕ → List ℕ → ℕ
 number_from n [] = n
@@ -48,6 +38,10 @@ number_from n (c ∷ cs) = number_from (n * 16 + value_of c) cs
 
 abbrev pub number_of : List ℕ → ℕ
 number_of cs = number_from 0 cs
+
+-- The same, if all characters are digits.
+abbrev pub number_in : List ℕ → Option ℕ
+number_in cs = cond (every is_digit cs) (Some (number_of cs)) None
 
 -- The last k digits of a number in a base, the most significant first.
 unfoldable pub digits : ℕ → ℕ → ℕ → List ℕ

@@ -1,19 +1,19 @@
 -- Input: a line of lower-case hexadecimal is a frame, kind (1 byte), day (2) and the fields of its kind, or it is none.
-use Rattle.std.specs.Prelude.{List, [], ◌∷◌, ◌++◌, cond, ℕ, ◌*◌, ◌^◌, ◌<◌, length}
+use Rattle.std.specs.Prelude.{List, [], ◌∷◌, ◌++◌, cond, Option, None, ℕ, ◌*◌, ◌^◌, ◌<◌, length}
 use Rattle.lists.specs.Every.{every}
 use Rattle.intake.specs.declared.Call.{Call}
 use Rattle.frames.specs.Layout.{layout, widths_of, field, framed, told_of}
-use Rattle.frames.specs.{declared.Parsed.Parsed, declared.Parsed.TheVariants.NotAFrame, Digits.is_digit, Digits.bytes}
+use Rattle.frames.specs.{Digits.is_digit, Digits.bytes}
 
 abbrev pub kind_of : List ℕ → ℕ
 kind_of line = field 0 1 line
 
-abbrev pub frame_of : List ℕ → Parsed
+abbrev pub frame_of : List ℕ → Option Call
 frame_of line = framed layout (length line) (kind_of line) line
 
 -- Other characters make no frame.
-unfoldable pub parsed : List ℕ → Parsed
-parsed line = cond (every is_digit line) (frame_of line) NotAFrame
+unfoldable pub parsed : List ℕ → Option Call
+parsed line = cond (every is_digit line) (frame_of line) None
 
 -- The bytes of a call's kind and of its fields, and their values.
 abbrev pub widths_in : Call → List ℕ

@@ -1,13 +1,12 @@
 -- The frames, told once: a row for each call, with its kind, the bytes of each field behind the kind, and the call that the fields make.
 use mathlib.Core.{Bool.cond, Bool.◌&&◌, List.List, List.[], List.◌∷◌}
-use Rattle.std.specs.Prelude.{ℕ, ◌+◌, ◌*◌}
+use Rattle.std.specs.Prelude.{Option, Some, None, ℕ, ◌+◌, ◌*◌}
 use lib.{Dec.eqb, ListN.take, ListN.drop}
 use Rattle.lists.specs.Sum.{sum}
 use Rattle.tariff.specs.declared.Fuel.{Fuel}
 use Rattle.intake.specs.declared.Call.TheVariants.{Opening, Reading, Missed, Absent, Exchange, Disconnection, Reconnection, Cancellation}
 use Rattle.intake.specs.declared.Call.TheVariants.{Payment, StoppedCancellation}
 use Rattle.intake.specs.declared.Call.{Call}
-use Rattle.frames.specs.{declared.Parsed.Parsed, declared.Parsed.TheVariants.Frame, declared.Parsed.TheVariants.NotAFrame}
 use Rattle.frames.specs.Digits.{number_of}
 
 -- What makes a call of a number for each field.
@@ -64,10 +63,10 @@ filled [] call from line = call
 filled (w ∷ ws) make from line = filled ws (make (field from w line)) (from + w) line
 
 -- The frame of the first row of this kind and size.
-abbrev pub framed : List Row → ℕ → ℕ → List ℕ → Parsed
-framed [] size kind line = NotAFrame
+abbrev pub framed : List Row → ℕ → ℕ → List ℕ → Option Call
+framed [] size kind line = None
 framed (r ∷ rs) size kind line =
-    cond (eqb kind r.kind && eqb size (size_of r.widths)) (Frame (filled r.widths r.make 1 line)) (framed rs size kind line)
+    cond (eqb kind r.kind && eqb size (size_of r.widths)) (Some (filled r.widths r.make 1 line)) (framed rs size kind line)
 
 -- The other way: the kind of a call, and the values of its fields in their order.
 pub record Told : Type 0 where

@@ -1,371 +1,191 @@
 // Lines that come in: a line to the call that it is the frame of.
 #![tactic(auto)]
 
-ghost use Rattle.std.specs.Prelude.{◌≡◌, ◌+◌, ◌≤◌, length, take, drop};
-ghost use Rattle.frames.specs.Digits.{value_or, ValueTable, read_of};
-ghost use Rattle.frames.specs.Numbers.{widths, widths_by, no_fields, fields_of, call_of, SmallIn, Checked, ReadIn, ReadAt, Begins, FieldIn, Any2, Any3};
+ghost use Rattle.std.specs.Prelude.{◌≡◌, ◌≤◌, ◌<◌, ◌^◌, length, get_or, IfSome, MatchOption};
+ghost use Rattle.frames.specs.Digits.{number_in};
+ghost use Rattle.frames.specs.Numbers.{call_of, BeginsKind, FrameAt, KindOf};
 
+mod values;
+
+use crate::values::NO_DIGIT;
 use intake::Call;
 use tariff::Fuel;
-
-// What a line is.
-#[derive(Clone, Copy)]
-pub enum Parsed {
-    Frame(Call),
-    NotAFrame,
-}
-
-// What stands in a frame: its width, 0 where there is none, the second character of its kind, and its fields.
-#[derive(Clone, Copy)]
-pub struct Fields {
-    pub width: usize,
-    pub kind: u8,
-    pub day: u64,
-    pub first: u64,
-    pub second: u64,
-    pub third: u64,
-    pub short: u64,
-}
-
-// The characters of a frame, and of each of its fields behind the day.
-#[derive(Clone, Copy)]
-pub struct Widths {
-    pub size: usize,
-    pub first: usize,
-    pub second: usize,
-    pub third: usize,
-    pub short: usize,
-}
 
 // The characters of the longest frame.
 const LONGEST_FRAME: usize = 30;
 
-// No number of eight digits comes to it.
-const NO_DIGIT: u64 = 4_294_967_296;
-
-// The value of every character, by its number: made once, and lent.
-pub fn value_table() -> [u64; 256]
-    ensures { ValueTable result }
-{
-    let mut table = [0u64; 256];
-    let mut i: usize = 0;
-    while i < 256 {
-        table[i] = value_or(i as u8);
-        i += 1;
-    }
-    table
+// The kinds of frame, a call each.
+#[derive(Clone, Copy, PartialEq, Eq, Debug)]
+pub enum FrameKind {
+    Opening,
+    Reading,
+    Missed,
+    Absent,
+    Exchange,
+    Disconnection,
+    Reconnection,
+    Cancellation,
+    Payment,
+    StoppedCancellation,
 }
 
-// The value of a character that is a hexadecimal digit, and 2^32 for any other.
-fn value_or(character: u8) -> u64
-    ensures { result ≡ value_or character }
-{
-    if character < 48 {
-        return NO_DIGIT;
-    }
-    if character <= 57 {
-        return (character - 48) as u64;
-    }
-    if character < 97 {
-        return NO_DIGIT;
-    }
-    if character <= 102 {
-        return (character - 87) as u64;
-    }
-    NO_DIGIT
+// What stands in a frame: its kind, and the numbers of its fields.
+#[derive(Clone, Copy, PartialEq, Eq, Debug)]
+pub struct Frame {
+    pub kind: FrameKind,
+    pub day: u16,
+    pub first: u32,
+    pub second: u32,
+    pub third: u32,
+    pub short: u8,
 }
 
-// The frame that a line is.
-pub fn fields_in(line: &[u8], table: &[u64; 256]) -> Fields
-    requires { ValueTable table.now }
-    ensures { ReadIn line.now result }
+// The frame that, with its LF behind it, begins some bytes, and its width. There is room for the longest.
+#[inline(always)]
+#[tactic(auto, using(crate::proofs::Numbers::other_beginning, crate::proofs::Numbers::other_kind))]
+pub fn frame_at(bytes: &[u8]) -> Option<(Frame, usize)>
+    ensures { FrameAt bytes.now result }
 {
-    if line.len() < 6 {
-        return no_frame();
+    if bytes.len() <= LONGEST_FRAME {
+        return None;
     }
-    if line[0] != 48 {
-        return no_frame();
+    if bytes[0] != b'0' {
+        return None;
     }
-    let kind = line[1];
-    let widths = widths_of(kind);
-    if line.len() != widths.size {
-        return no_frame();
-    }
-    let second_at = 6 + widths.first;
-    let third_at = second_at + widths.second;
-    let day = field(line, table, 2, 4);
-    let first = field(line, table, 6, widths.first);
-    let second = field(line, table, second_at, widths.second);
-    let third = field(line, table, third_at, widths.third);
-    let short = field(line, table, third_at + widths.third, widths.short);
-    checked(widths.size, kind, day, first, second, third, short, 10)
-}
-
-// By the second character of a kind: all 0 where there is no such kind.
-fn widths_of(kind: u8) -> Widths
-    ensures { result ≡ widths_by kind }
-{
+    let kind = kind_of(bytes[1])?;
     match kind {
-        49 => sized(8, 0, 0, 2),
-        50 => sized(8, 8, 8, 0),
-        51 => sized(8, 8, 0, 0),
-        52 => sized(8, 8, 0, 0),
-        53 => sized(8, 8, 0, 2),
-        54 => sized(8, 8, 8, 0),
-        55 => sized(8, 0, 0, 2),
-        56 => sized(8, 8, 8, 0),
-        57 => sized(8, 0, 0, 0),
-        97 => sized(0, 0, 0, 0),
-        _ => Widths {
-            size: 0,
-            first: 0,
-            second: 0,
-            third: 0,
-            short: 0,
-        },
+        FrameKind::Reading | FrameKind::Disconnection | FrameKind::Cancellation => {
+            fields_of::<8, 8, 8, 0>(bytes, kind)
+        }
+        FrameKind::Opening | FrameKind::Reconnection => fields_of::<8, 0, 0, 2>(bytes, kind),
+        FrameKind::Missed | FrameKind::Absent => fields_of::<8, 8, 0, 0>(bytes, kind),
+        FrameKind::Exchange => fields_of::<8, 8, 0, 2>(bytes, kind),
+        FrameKind::Payment => fields_of::<8, 0, 0, 0>(bytes, kind),
+        FrameKind::StoppedCancellation => fields_of::<0, 0, 0, 0>(bytes, kind),
     }
 }
 
-fn sized(first: usize, second: usize, third: usize, short: usize) -> Widths
-    requires { first + second + third + short ≤ 24 }
-    ensures { result ≡ widths first second third short }
+// The kind by its second character; the first is 0.
+#[inline(always)]
+fn kind_of(character: u8) -> Option<FrameKind>
+    ensures { KindOf character result }
 {
-    Widths {
-        size: 6 + first + second + third + short,
-        first,
-        second,
-        third,
-        short,
+    match character {
+        b'1' => Some(FrameKind::Opening),
+        b'2' => Some(FrameKind::Reading),
+        b'3' => Some(FrameKind::Missed),
+        b'4' => Some(FrameKind::Absent),
+        b'5' => Some(FrameKind::Exchange),
+        b'6' => Some(FrameKind::Disconnection),
+        b'7' => Some(FrameKind::Reconnection),
+        b'8' => Some(FrameKind::Cancellation),
+        b'9' => Some(FrameKind::Payment),
+        b'a' => Some(FrameKind::StoppedCancellation),
+        _ => None,
     }
 }
 
-// The frame that begins at a place, if one lies there whole and room for the longest is left.
-pub fn fields_at(input: &[u8], table: &[u64; 256], at: usize) -> Fields
-    requires at_in_bounds { at ≤ length input.now }
-    requires value_table { ValueTable table.now }
-    ensures { (result.width ≡ 0 → ⊥) → ReadAt input.now at result }
+// The frame whose fields behind the day have so many characters, if digits stand in all of them, and LF behind them.
+#[inline(always)]
+fn fields_of<const FIRST: usize, const SECOND: usize, const THIRD: usize, const SHORT: usize>(
+    bytes: &[u8],
+    kind: FrameKind,
+) -> Option<(Frame, usize)>
+    requires { BeginsKind bytes.now kind FIRST SECOND THIRD SHORT }
+    ensures { FrameAt bytes.now result }
 {
-    if input.len() - at <= LONGEST_FRAME {
-        return no_frame();
+    let second_at = 6 + FIRST;
+    let third_at = second_at + SECOND;
+    let short_at = third_at + THIRD;
+    let end = short_at + SHORT;
+    let last = bytes[end];
+    if last != b'\n' {
+        return None;
     }
-    if input[at] != 48 {
-        return no_frame();
-    }
-    let kind = input[at + 1];
-    match kind {
-        50 | 54 | 56 => closing_fields(input, table, at, kind),
-        49 | 55 => dial_fields(input, table, at, kind),
-        51 | 52 => estimate_fields(input, table, at, kind),
-        53 => exchange_fields(input, table, at, kind),
-        57 => payment_fields(input, table, at, kind),
-        97 => stopped_fields(input, table, at, kind),
-        _ => no_frame(),
-    }
+    let frame = Frame {
+        kind,
+        day: number(&bytes[2..6])? as u16,
+        first: number(&bytes[6..second_at])?,
+        second: number(&bytes[second_at..third_at])?,
+        third: number(&bytes[third_at..short_at])?,
+        short: number(&bytes[short_at..end])? as u8,
+    };
+    Some((frame, end))
 }
 
-// 02, 06 and 08: a reading closes the period
-fn closing_fields(input: &[u8], table: &[u64; 256], at: usize, kind: u8) -> Fields
-    requires begins { Begins input.now at kind }
-    requires value_table { ValueTable table.now }
-    requires any3 { Any3 50 54 56 kind }
-    ensures { (result.width ≡ 0 → ⊥) → ReadAt input.now at result }
-{
-    let day = field(input, table, at + 2, 4);
-    let first = field(input, table, at + 6, 8);
-    let second = field(input, table, at + 14, 8);
-    let third = field(input, table, at + 22, 8);
-    checked(30, kind, day, first, second, third, 0, input[at + 30])
-}
-
-// 03 and 04: a missed reading
-fn estimate_fields(input: &[u8], table: &[u64; 256], at: usize, kind: u8) -> Fields
-    requires begins { Begins input.now at kind }
-    requires value_table { ValueTable table.now }
-    requires any2 { Any2 51 52 kind }
-    ensures { (result.width ≡ 0 → ⊥) → ReadAt input.now at result }
-{
-    let day = field(input, table, at + 2, 4);
-    let first = field(input, table, at + 6, 8);
-    let second = field(input, table, at + 14, 8);
-    checked(22, kind, day, first, second, 0, 0, input[at + 22])
-}
-
-// 01 and 07: supply begins at a dial
-fn dial_fields(input: &[u8], table: &[u64; 256], at: usize, kind: u8) -> Fields
-    requires begins { Begins input.now at kind }
-    requires value_table { ValueTable table.now }
-    requires any2 { Any2 49 55 kind }
-    ensures { (result.width ≡ 0 → ⊥) → ReadAt input.now at result }
-{
-    let day = field(input, table, at + 2, 4);
-    let first = field(input, table, at + 6, 8);
-    let short = field(input, table, at + 14, 2);
-    checked(16, kind, day, first, 0, 0, short, input[at + 16])
-}
-
-// 05: meter change
-fn exchange_fields(input: &[u8], table: &[u64; 256], at: usize, kind: u8) -> Fields
-    requires begins { Begins input.now at kind }
-    requires value_table { ValueTable table.now }
-    requires kind_value { kind ≡ 53 }
-    ensures { (result.width ≡ 0 → ⊥) → ReadAt input.now at result }
-{
-    let day = field(input, table, at + 2, 4);
-    let first = field(input, table, at + 6, 8);
-    let second = field(input, table, at + 14, 8);
-    let short = field(input, table, at + 22, 2);
-    checked(24, kind, day, first, second, 0, short, input[at + 24])
-}
-
-// 09: payment
-fn payment_fields(input: &[u8], table: &[u64; 256], at: usize, kind: u8) -> Fields
-    requires begins { Begins input.now at kind }
-    requires value_table { ValueTable table.now }
-    requires kind_value { kind ≡ 57 }
-    ensures { (result.width ≡ 0 → ⊥) → ReadAt input.now at result }
-{
-    let day = field(input, table, at + 2, 4);
-    let first = field(input, table, at + 6, 8);
-    checked(14, kind, day, first, 0, 0, 0, input[at + 14])
-}
-
-// 0a: cancellation while stopped
-fn stopped_fields(input: &[u8], table: &[u64; 256], at: usize, kind: u8) -> Fields
-    requires begins { Begins input.now at kind }
-    requires value_table { ValueTable table.now }
-    requires kind_value { kind ≡ 97 }
-    ensures { (result.width ≡ 0 → ⊥) → ReadAt input.now at result }
-{
-    let day = field(input, table, at + 2, 4);
-    checked(6, kind, day, 0, 0, 0, 0, input[at + 6])
-}
-
-// A field of so many characters: its number, or 2^32 and more.
-pub fn field(input: &[u8], table: &[u64; 256], from: usize, width: usize) -> u64
-    requires field_in { FieldIn input.now from width }
-    requires value_table { ValueTable table.now }
-    ensures { result ≡ read_of (take width (drop from input.now)) }
+// The number that at most eight characters show, if they are digits.
+#[inline(always)]
+pub fn number(digits: &[u8]) -> Option<u32>
+    requires { length digits.now ≤ 8 }
+    ensures value { result ≡ number_in digits.now }
+    ensures bound { IfSome result (λ n. n < 16 ^ length digits.now) }
 {
     let mut n: u64 = 0;
-    let mut i: usize = 0;
-    while i < width {
-        n = n * 16 + table[input[from + i] as usize];
-        i += 1;
+    for digit in digits {
+        n = n * 16 + values::value(*digit);
     }
-    n
+    if n < NO_DIGIT { Some(n as u32) } else { None }
 }
 
-// The fields as they were read, if all are digits and LF follows.
-fn checked(
-    width: usize,
-    kind: u8,
-    day: u64,
-    first: u64,
-    second: u64,
-    third: u64,
-    short: u64,
-    last: u8,
-) -> Fields
-    ensures { Checked (fields_of width kind day first second third short) last result }
-{
-    if last != 10 {
-        return no_frame();
-    }
-    if day >= NO_DIGIT {
-        return no_frame();
-    }
-    if first >= NO_DIGIT {
-        return no_frame();
-    }
-    if second >= NO_DIGIT {
-        return no_frame();
-    }
-    if third >= NO_DIGIT {
-        return no_frame();
-    }
-    if short >= NO_DIGIT {
-        return no_frame();
-    }
-    Fields {
-        width,
-        kind,
-        day,
-        first,
-        second,
-        third,
-        short,
-    }
-}
+impl From<Frame> for Call {
+    ghost from_gives = { λ frame call. call ≡ call_of frame };
 
-pub fn no_frame() -> Fields
-    ensures { result ≡ no_fields }
-{
-    Fields {
-        width: 0,
-        kind: 0,
-        day: 0,
-        first: 0,
-        second: 0,
-        third: 0,
-        short: 0,
-    }
-}
-
-// The call of the fields of a frame.
-pub fn call_of(fields: Fields) -> Call
-    requires { SmallIn fields }
-    ensures { result ≡ call_of fields }
-{
-    let kind = fields.kind;
-    let day = fields.day as u16;
-    let first = fields.first as u32;
-    let second = fields.second as u32;
-    let third = fields.third as u32;
-    let short = fields.short as u8;
-    // the prices of 03 and 04, and those behind a reading
-    let alone = Fuel {
-        lng: first,
-        propane: second,
-    };
-    let behind = Fuel {
-        lng: second,
-        propane: third,
-    };
-    match kind {
-        49 => Call::Opening {
+    // The call of a frame.
+    #[inline(always)]
+    fn from(frame: Frame) -> Call {
+        let Frame {
+            kind,
             day,
-            reading: first,
-            digits: short,
-        },
-        50 => Call::Reading {
-            day,
-            reading: first,
-            fuel: behind,
-        },
-        51 => Call::Missed { day, fuel: alone },
-        52 => Call::Absent { day, fuel: alone },
-        53 => Call::Exchange {
-            day,
-            old: first,
-            new: second,
-            digits: short,
-        },
-        54 => Call::Disconnection {
-            day,
-            reading: first,
-            fuel: behind,
-        },
-        55 => Call::Reconnection {
-            day,
-            reading: first,
-            digits: short,
-        },
-        56 => Call::Cancellation {
-            day,
-            reading: first,
-            fuel: behind,
-        },
-        57 => Call::Payment { day, yen: first },
-        _ => Call::StoppedCancellation { day },
+            first,
+            second,
+            third,
+            short,
+        } = frame;
+        // the prices of 03 and 04, and those behind a reading
+        let alone = Fuel {
+            lng: first,
+            propane: second,
+        };
+        let behind = Fuel {
+            lng: second,
+            propane: third,
+        };
+        match kind {
+            FrameKind::Opening => Call::Opening {
+                day,
+                reading: first,
+                digits: short,
+            },
+            FrameKind::Reading => Call::Reading {
+                day,
+                reading: first,
+                fuel: behind,
+            },
+            FrameKind::Missed => Call::Missed { day, fuel: alone },
+            FrameKind::Absent => Call::Absent { day, fuel: alone },
+            FrameKind::Exchange => Call::Exchange {
+                day,
+                old: first,
+                new: second,
+                digits: short,
+            },
+            FrameKind::Disconnection => Call::Disconnection {
+                day,
+                reading: first,
+                fuel: behind,
+            },
+            FrameKind::Reconnection => Call::Reconnection {
+                day,
+                reading: first,
+                digits: short,
+            },
+            FrameKind::Cancellation => Call::Cancellation {
+                day,
+                reading: first,
+                fuel: behind,
+            },
+            FrameKind::Payment => Call::Payment { day, yen: first },
+            FrameKind::StoppedCancellation => Call::StoppedCancellation { day },
+        }
     }
 }

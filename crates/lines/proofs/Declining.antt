@@ -1,10 +1,12 @@
 -- A piece by a list that breaks its bounds, under way: every line is answered 14. Assumes nothing.
+use Rattle.std.specs.Prelude.{Option}
+use Rattle.intake.specs.declared.Call.{Call}
 use Rattle.common.proofs.Words.{◌≡◌, refl, sym, ap, ◌∙◌, false, List, ℕ, ◌+◌, ◌-◌, ◌≤◌, ◌<◌, sub-zero, arith, length, take}
 use Rattle.duedays.specs.DueDays.{list_allowed}
 use Rattle.account.specs.{declared.Account.Account, declared.Outcome.Outcome, Outcomes.declined, Outcomes.declining}
-use Rattle.frames.specs.{declared.Parsed.Parsed, Digits.written, Frames.parsed}
+use Rattle.frames.specs.{Digits.written, Frames.parsed}
 use Rattle.answers.specs.Answers.{answer_line, longest_answer}
-use Rattle.lines.specs.Feeding.{kept_most, blank_line, nothing, between, feeding}
+use Rattle.lines.specs.Feeding.{blank_line, nothing, between, feeding}
 use Rattle.lines.specs.{declared.Kept.Kept, declared.State.State, Line.parsed_outcome, Going.state, Going.fed_from}
 use Rattle.lines.specs.Going.{Keeps, Declines}
 use Rattle.lines.proofs.Feeding.{Ahead, ahead_start, ahead_leads, ahead_done, ahead_text}
@@ -15,26 +17,24 @@ pub record Declining (input text : List ℕ) (s : State) (n taken place : ℕ) (
   pub within : taken ≤ length input
   pub out_long : length out ≡ length text
   pub placed : place ≤ length text
-  pub line_long : length line ≡ kept_most
   pub clear : n ≡ 0 → line ≡ blank_line
   pub ahead : (holidays : List ℕ) → list_allowed holidays ≡ false
       → Ahead (feeding holidays (length text) s input) text taken place
       (fed_from holidays input taken (length text - place) (state s.account n line)) out
 
-pub declining_start : {input text : List ℕ} (s : State) → length s.line ≡ kept_most → (s.length ≡ 0 → s.line ≡ blank_line)
+pub declining_start : {input text : List ℕ} (s : State) → (s.length ≡ 0 → s.line ≡ blank_line)
     → Declining input text s s.length 0 0 s.line text
-declining_start {text = text} s long clear =
+declining_start {text = text} s clear =
     record {
       within = omega arith;
       out_long = refl;
       placed = omega arith;
-      line_long = long;
       clear = clear;
       ahead = λ holidays unlisted. rw (sub-zero (length text)) (ahead_start _ _);
     }
 
 -- The answer to a line.
-declined_line : (holidays : List ℕ) → list_allowed holidays ≡ false → (a : Account) (line : Parsed)
+declined_line : (holidays : List ℕ) → list_allowed holidays ≡ false → (a : Account) (line : Option Call)
     → parsed_outcome holidays a line ≡ declined a 14
 declined_line holidays unlisted a line = rw unlisted refl
 
@@ -92,7 +92,6 @@ module _ {input text : List ℕ} {s : State} {n taken place : ℕ} {line out : L
           within = omega arith;
           out_long = long ∙ d.out_long;
           placed = omega (arith, few, left, d.placed);
-          line_long = refl;
           clear = λ z. refl;
           ahead = λ holidays unlisted.
               let is = declined_line holidays unlisted s.account line_is in

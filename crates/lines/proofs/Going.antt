@@ -1,20 +1,26 @@
 -- What the bytes of a line lead to. Assumes nothing.
-use Rattle.common.proofs.Words.{◌≡◌, refl, sym, ap, ◌∙◌, Bool, true, false, true≢false, false≢true, List, [], ◌∷◌, ◌++◌, ℕ, zero, suc, ◌+◌}
+use Rattle.std.specs.Prelude.{Option, Some, None}
+use Rattle.common.proofs.Words.{◌≡◌, refl, sym, ◌⊎◌, inl, inr, ap, ◌∙◌, true, List, [], ◌∷◌, ◌++◌, ℕ, zero, suc, ◌+◌}
 use Rattle.common.proofs.Words.{◌-◌, ◌≤◌, ◌<◌, add-zero, add-suc, arith, add-one, leb, length, get_or, set, take, drop, length-set}
-use Rattle.common.proofs.Words.{length-drop, drop_of_length-le, length-take-le, drop-cons, take-suc, take-suc-set, get_or-drop, leb-true}
+use Rattle.common.proofs.Words.{length-drop, length-take, drop_of_length-le, drop-cons, take-suc, take-suc-set, get_or-drop, get_or-set_same, leb-true}
 use Rattle.common.proofs.Words.{leb-false}
-use Rattle.lists.specs.Every.{every}
+use Rattle.std.proofs.lemmas.Option.{same_Some}
+use Rattle.std.specs.List.{between as part}
+use Rattle.std.proofs.lemmas.{List.take-set, Slice.between_to_end}
+use Rattle.common.proofs.Cases.{by_test, by_order}
 use Rattle.lists.proofs.Every.{every_true, every_in_front}
+use Rattle.account.specs.Calls.{new_account}
 use Rattle.account.specs.{declared.Account.Account, declared.Answer.Answer, declared.Outcome.Outcome}
 use Rattle.intake.specs.declared.Call.{Call}
-use Rattle.frames.specs.Numbers.{Lies, parsed_by, SmallIn, ReadAt, ReadIn}
-use Rattle.frames.specs.{declared.Fields.Fields, declared.Parsed.Parsed}
-use Rattle.frames.specs.declared.Parsed.TheVariants.{Frame, NotAFrame}
+use Rattle.frames.specs.Numbers.{call_of, Begins, FrameAt}
+use Rattle.frames.specs.declared.Frame.{Frame}
 use Rattle.frames.specs.{Digits.is_digit, Digits.line_feed, Digits.written, Layout.longest_frame, Frames.parsed}
-use Rattle.frames.proofs.{Frames.too_long, Frames.parsed_others, Numbers.parsed_frame}
+use Rattle.frames.proofs.{Frames.too_long, Numbers.call_digits, Numbers.begins_once, Numbers.digit_no_end}
 use Rattle.answers.specs.Answers.{answer_line, longest_answer}
 use Rattle.lines.specs.Feeding.{kept_most, blank_line, between, line_of, kept, Feeding, nothing, behind, feeding}
-use Rattle.lines.specs.Going.{state, Leads, fed_from, fed_behind, Keeps, Found, waiting_at, ended_at}
+use Rattle.lines.specs.Going.{state, Leads, fed_from, fed_behind, Keeps, read_as, Finds, found_at}
+use Rattle.lines.specs.declared.Next.{Next}
+use Rattle.lines.specs.declared.Next.TheVariants as variants
 use Rattle.lines.specs.{declared.Kept.Kept, declared.State.State, Line.parsed_outcome}
 use Rattle.lines.proofs.Feeding.{feed_ends, feed_stops, feed_keeps, kept_within, kept_full, Ahead, ahead_leads, ahead_put}
 
@@ -49,7 +55,7 @@ module _ (holidays input : List ℕ) (at room : ℕ) (s : State) where
         let is = next_byte ∙ feed_keeps holidays room s byte rest n ∙ ap (λ x. behind [] (feeding holidays room x rest)) e in
         rw (is, add-one at) (record { same_state = refl; same_output = refl; same_taken = omega arith })
 
-    line_ends_lem : byte ≡ line_feed → longest_answer ≤ room → {p : Parsed} → parsed (line_of s) ≡ p
+    line_ends_lem : byte ≡ line_feed → longest_answer ≤ room → {p : Option Call} → parsed (line_of s) ≡ p
         → Leads at (at + 1) (fed_from holidays input at room s)
         (fed_behind holidays input (at + 1) room (parsed_outcome holidays s.account p))
     line_ends_lem e r is =
@@ -63,130 +69,156 @@ module _ (holidays input : List ℕ) (at room : ℕ) (s : State) where
 pub record Keeping (input : List ℕ) (from begun : ℕ) (line₀ : List ℕ) (taken n : ℕ) (line : List ℕ) : Type 0 where
   pub onward : from ≤ taken
   pub within : taken ≤ length input
-  pub long : length line ≡ kept_most
   pub none : n ≡ 0 → (begun ≡ 0) × (line ≡ line₀)
   pub leads : (holidays : List ℕ) (a : Account) (room : ℕ)
       → Leads from taken (fed_from holidays input from room (state a begun line₀)) (fed_from holidays input taken room (state a n line))
 
-pub keeping_start : {input : List ℕ} {from begun : ℕ} {line₀ : List ℕ} → from ≤ length input → length line₀ ≡ kept_most
-    → Keeping input from begun line₀ from begun line₀
-keeping_start within long =
-    record { onward = omega arith; within = within; long = long; none = λ z. (z, refl); leads = λ holidays a room. leads_nowhere }
+pub keeping_start : {input : List ℕ} {from begun : ℕ} {line₀ : List ℕ} → from ≤ length input → Keeping input from begun line₀ from begun line₀
+keeping_start within = record { onward = omega arith; within = within; none = λ z. (z, refl); leads = λ holidays a room. leads_nowhere }
+
+-- What keeping a character makes of those kept.
+abbrev Kept_on : ℕ → List ℕ → ℕ → ℕ → List ℕ → Type 0
+Kept_on n line c n' line' = (a : Account) → state a n' line' ≡ kept (state a n line) c
+
+kept_same : (n : ℕ) (line : List ℕ) (c : ℕ) {n' : ℕ} {line' : List ℕ} → Kept_on n line c n' line' → n' ≡ 0 → (n ≡ 0) × (line' ≡ line)
+kept_same n line c k z =
+    by_order n kept_most
+    (λ few. absurd (let some = ap (λ (s : State). s.length) (k new_account ∙ kept_within new_account n line c few) in omega arith))
+    (λ full. absurd (let some = ap (λ (s : State). s.length) (k new_account ∙ kept_full new_account n line c full) in omega arith))
 
 module _ {input : List ℕ} {from begun : ℕ} {line₀ : List ℕ} {taken n : ℕ} {line : List ℕ}
     (k : Keeping input from begun line₀ taken n line) where
-  abbrev next : ℕ
-  next = get_or input taken 0
+  abbrev byte_at : ℕ
+  byte_at = get_or input taken 0
 
-  pub keeping_ends : (taken < length input → next ≡ line_feed) → Keeps input from begun line₀ line (record { taken = taken; length = n })
-  keeping_ends ends = record { onward = k.onward; within = k.within; ends = ends; long = k.long; none = k.none; leads = k.leads }
+  pub keeping_ends : (taken < length input → byte_at ≡ line_feed) → Keeps input from begun line₀ line (record { taken = taken; length = n })
+  keeping_ends ends = record { onward = k.onward; within = k.within; ends = ends; none = k.none; leads = k.leads }
 
-  module _ (more : taken < length input) (other : next ≡ line_feed → ⊥) where
-    character : (holidays : List ℕ) (a : Account) (room : ℕ) {s' : State} → kept (state a n line) next ≡ s'
-        → Leads from (taken + 1) (fed_from holidays input from room (state a begun line₀)) (fed_from holidays input (taken + 1) room s')
-    character holidays a room e = leads_on (k.leads holidays a room) (byte_kept holidays input taken room (state a n line) more other e)
+  pub keeping_on : taken < length input → (byte_at ≡ line_feed → ⊥) → {n' : ℕ} {line' : List ℕ} → Kept_on n line byte_at n' line'
+      → Keeping input from begun line₀ (taken + 1) n' line'
+  keeping_on more other on =
+      record {
+        onward = omega (arith, k.onward);
+        within = omega arith;
+        none = λ z. let same = kept_same n line byte_at on z in ((k.none same.0).0, same.1 ∙ (k.none same.0).1);
+        leads = λ holidays a room.
+            leads_on (k.leads holidays a room) (byte_kept holidays input taken room (state a n line) more other (sym (on a)));
+      }
 
-    pub keeping_more : n < kept_most → Keeping input from begun line₀ (taken + 1) (n + 1) (set line n next)
-    keeping_more few =
-        record {
-          onward = omega (arith, k.onward);
-          within = omega arith;
-          long = length-set line n next ∙ k.long;
-          none = λ z. absurd (omega (arith, z));
-          leads = λ holidays a room. character holidays a room (kept_within a n line next few);
-        }
+-- The characters of an input behind a place.
+pub rest_at : (input : List ℕ) (from i : ℕ) → get_or (part from (length input) input) i 0 ≡ get_or input (from + i) 0
+rest_at input from i = rw (between_to_end input from (length input) (omega arith)) (get_or-drop from input i 0)
 
-    pub keeping_full : kept_most ≤ n → Keeping input from begun line₀ (taken + 1) n line
-    keeping_full full =
-        record {
-          onward = omega (arith, k.onward);
-          within = omega arith;
-          long = k.long;
-          none = k.none;
-          leads = λ holidays a room. character holidays a room (kept_full a n line next full);
-        }
+pub rest_long : (input : List ℕ) (from : ℕ) → length (part from (length input) input) ≡ length input - from
+rest_long input from = rw (between_to_end input from (length input) (omega arith)) (length-drop from input)
 
-digit_no_end : (c : ℕ) → is_digit c ≡ true → c ≡ line_feed → ⊥
-unfolding is_digit
-digit_no_end c e l = true≢false (sym (rw l at e))
+-- A frame has at most as many characters as the longest.
+frame_short : (line : List ℕ) {call : Call} → parsed line ≡ Some call → length line ≤ longest_frame
+frame_short line e =
+    by_test (leb (length line) longest_frame) (leb-true (length line) longest_frame)
+    (λ long. absurd (let none = too_long line (leb-false (length line) longest_frame long) in cc))
 
--- What is read as a call has digits only, and at most as many as the longest frame.
-module _ (line : List ℕ) (call : Call) (e : parsed line ≡ Frame call) where
-  frame_only : (b : Bool) → (b ≡ false → parsed line ≡ NotAFrame) → b ≡ true
-  frame_only true none = refl
-  frame_only false none = let never = none refl in cc
+-- The characters kept of a line, with LF behind them: the frame that begins them is the line's where it has all of them.
+module _ (line : List ℕ) (n : ℕ) where
+  abbrev with_end : List ℕ
+  with_end = set line n line_feed
 
-  frame_digits : every is_digit line ≡ true
-  frame_digits = frame_only (every is_digit line) (parsed_others line)
+  pub kept_many : length line ≡ kept_most → kept_most ≤ n → None ≡ parsed (take n line)
+  kept_many long many = sym (too_long (take n line) (rw (length-take n line) (omega arith)))
 
-  frame_short : length line ≤ longest_frame
-  frame_short =
-      leb-true (length line) longest_frame
-      (frame_only (leb (length line) longest_frame) (λ f. too_long line (leb-false (length line) longest_frame f)))
+  kept_begins : length line ≡ kept_most → n < kept_most → {call : Call} → parsed (take n line) ≡ Some call → Begins with_end call n
+  kept_begins long few is =
+      record {
+        room = rw (length-set line n line_feed) (omega arith);
+        within = omega arith;
+        ends = get_or-set_same line n line_feed 0 (omega arith);
+        frame = rw (take-set line n line_feed) is;
+      }
+
+  kept_none : length line ≡ kept_most → n < kept_most → ((call : Call) → Begins with_end call n → ⊥) → None ≡ parsed (take n line)
+  kept_none long few none = by_call (parsed (take n line)) (λ call is. none call (kept_begins long few is))
+    where
+      by_call : (p : Option Call) → ((call : Call) → p ≡ Some call → ⊥) → None ≡ p
+      by_call None other = refl
+      by_call (Some call) other = absurd (other call refl)
+
+  pub kept_no_frame : length line ≡ kept_most → n < kept_most → FrameAt with_end None → None ≡ parsed (take n line)
+  kept_no_frame long few none = kept_none long few (λ call b. none call n b)
+
+  pub kept_other : length line ≡ kept_most → n < kept_most → {call : Call} {width : ℕ} → Begins with_end call width → (width ≡ n → ⊥)
+      → None ≡ parsed (take n line)
+  kept_other long few found other = kept_none long few (λ call b. other (begins_once found b))
 
 -- The front of a frame that lies in an input, kept.
 record Front (input : List ℕ) (at k : ℕ) : Type 0 where
   line : List ℕ
+  long : length line ≡ kept_most
   keeping : Keeping input at 0 blank_line (at + k) k line
   same : take k line ≡ take k (drop at input)
 
-module _ {input : List ℕ} {at : ℕ} {call : Call} {width : ℕ} (l : Lies input at call width) where
+module _ (input : List ℕ) (at : ℕ) {call : Call} {width : ℕ} (b : Begins (drop at input) call width) where
   abbrev rest : List ℕ
   rest = drop at input
 
-  inside : width < length rest
-  inside = omega (arith, length-drop at input, l.within)
-
-  few : width < kept_most
-  few = omega (arith, frame_short (take width rest) call l.frame, length-take-le width rest (omega (arith, inside)))
+  inside : at + longest_frame < length input
+  inside = omega (arith, length-drop at input, b.room)
 
   digit : (k : ℕ) → k < width → is_digit (get_or rest k 0) ≡ true
   digit k h =
-      every_in_front (λ c. is_digit c ≡ true) rest width k 0 h (omega (arith, inside))
-      (every_true is_digit (take width rest) (frame_digits (take width rest) call l.frame))
+      every_in_front (λ c. is_digit c ≡ true) rest width k 0 h (omega (arith, b.room, b.within))
+      (every_true is_digit (take width rest) (call_digits (take width rest) b.frame))
 
   front_more : (k : ℕ) → k < width → Front input at k → Front input at (suc k)
   front_more k h f =
       let is = get_or-drop at input k 0 in
-      let more : at + k < length input = omega (arith, l.within) in
-      let room : k < length f.line = rw f.keeping.long (omega (arith, few)) in
+      let next = get_or input (at + k) 0 in
+      let more : at + k < length input = omega (arith, inside, b.within) in
+      let few : k < kept_most = omega (arith, b.within) in
       record {
-        line = set f.line k (get_or input (at + k) 0);
+        line = set f.line k next;
+        long = length-set f.line k next ∙ f.long;
         keeping =
             rw (add-suc at k, ← add-one (at + k), ← add-one k)
-            (keeping_more f.keeping more (digit_no_end (get_or input (at + k) 0) (rw is at (digit k h))) (omega (arith, few)));
+            (keeping_on f.keeping more (digit_no_end next (rw is at (digit k h))) (λ a. sym (kept_within a k f.line next few)));
         same =
-            take-suc-set f.line k (get_or input (at + k) 0) room ∙ ap (λ xs. xs ++ (get_or input (at + k) 0 ∷ [])) f.same ∙
-            sym (take-suc rest k 0 (omega (arith, inside)) ∙ ap (λ c. take k rest ++ (c ∷ [])) is);
+            take-suc-set f.line k next (omega (arith, f.long)) ∙ ap (λ xs. xs ++ (next ∷ [])) f.same ∙
+            sym (take-suc rest k 0 (omega (arith, b.room, b.within)) ∙ ap (λ c. take k rest ++ (c ∷ [])) is);
       }
 
   front_kept : (k : ℕ) → k ≤ width → Front input at k
   front_kept zero h =
-      record { line = blank_line; keeping = rw (add-zero at) (keeping_start (omega (arith, l.within)) refl); same = refl }
+      record {
+        line = blank_line;
+        long = refl;
+        keeping = rw (add-zero at) (keeping_start (omega (arith, inside)));
+        same = refl;
+      }
   front_kept (suc k) h = front_more k h (front_kept k (omega arith))
 
   -- A whole frame taken where it lies is what its bytes and LF, fed one by one, make.
   frame_taken : (room : ℕ) (holidays : List ℕ) (a : Account) → longest_answer ≤ room
       → Leads at (at + width + 1) (fed_from holidays input at room (between a))
-      (fed_behind holidays input (at + width + 1) room (parsed_outcome holidays a (Frame call)))
+      (fed_behind holidays input (at + width + 1) room (parsed_outcome holidays a (Some call)))
   frame_taken room holidays a left =
       let f = front_kept width (omega arith) in
       leads_on (f.keeping.leads holidays a room)
-      (line_ends_lem holidays input (at + width) room (state a width f.line) l.within l.ends left (ap parsed f.same ∙ l.frame))
+      (line_ends_lem holidays input (at + width) room (state a width f.line) (omega (arith, inside, b.within))
+      (sym (get_or-drop at input width 0) ∙ b.ends) left (ap parsed f.same ∙ b.frame))
 
 -- A line that ended leaves none begun, and no trace.
-found_ended : {input : List ℕ} {from room begun taken : ℕ} {line after : List ℕ} {fields : Fields}
-    → after ≡ blank_line → taken ≤ length input → from < taken → longest_answer ≤ room → SmallIn fields
+found_ended : {input : List ℕ} {from room begun taken : ℕ} {line after : List ℕ} {next : Next} {call : Option Call}
+    → after ≡ blank_line → taken ≤ length input → from < taken → longest_answer ≤ room → read_as next ≡ Some call
     → ((holidays : List ℕ) (a : Account)
     → Leads from taken (fed_from holidays input from room (state a begun line))
-    (fed_behind holidays input taken room (parsed_outcome holidays a (parsed_by fields))))
-    → Found input from room begun line after (ended_at fields taken)
-found_ended blank within onward left small leads =
+    (fed_behind holidays input taken room (parsed_outcome holidays a call)))
+    → Finds input from room begun line after (found_at next taken 0)
+found_ended blank within onward left is leads =
     record {
       within = within;
-      long = ap length blank;
-      ended = λ e. record { room_left = left; onward = onward; none_begun = refl; blank = blank; small = small; leads = leads };
-      waits = λ e. absurd (true≢false e);
+      ended = λ read e.
+          let same = same_Some _ _ (sym is ∙ e) in
+          record { room_left = left; onward = onward; none_begun = refl; blank = blank; leads = rw same at leads };
+      waits = λ e. absurd (cc);
       clear = λ z. blank;
     }
 
@@ -198,42 +230,46 @@ module _ {input : List ℕ} {from begun : ℕ} {line kept : List ℕ} {r : Kept}
   module _ (clear : begun ≡ 0 → line ≡ blank_line) where
     found_waiting : ((holidays : List ℕ) (a : Account)
         → Leads r.taken r.taken (fed_from holidays input r.taken room (stands a)) (nothing (stands a)))
-        → Found input from room begun line kept (waiting_at r.taken r.length)
+        → Finds input from room begun line kept (found_at variants.Waits r.taken r.length)
     found_waiting stops =
         record {
           within = k.within;
-          long = k.long;
-          ended = λ e. absurd (false≢true e);
+          ended = λ read e. absurd (cc);
           waits = λ e holidays a. leads_on (k.leads holidays a room) (stops holidays a);
           clear = λ z. (k.none z).1 ∙ clear (k.none z).0;
         }
 
-    pub found_no_end : length input ≤ r.taken → Found input from room begun line kept (waiting_at r.taken r.length)
+    pub found_no_end : length input ≤ r.taken → Finds input from room begun line kept (found_at variants.Waits r.taken r.length)
     found_no_end none = found_waiting (λ holidays a. input_ended holidays input r.taken room (stands a) none)
 
     pub found_no_room : r.taken < length input → room < longest_answer
-        → Found input from room begun line kept (waiting_at r.taken r.length)
+        → Finds input from room begun line kept (found_at variants.Waits r.taken r.length)
     found_no_room more short = found_waiting (λ holidays a. line_waits holidays input r.taken room (stands a) more (k.ends more) short)
 
-  pub kept_ends : r.taken < length input → longest_answer ≤ room → (holidays : List ℕ) (a : Account) {p : Parsed}
+    pub found_waits : (r.taken ≡ length input) ⊎ ((r.taken ≡ length input → ⊥) × (room < longest_answer))
+        → Finds input from room begun line kept (found_at variants.Waits r.taken r.length)
+    found_waits (inl none) = found_no_end (omega arith)
+    found_waits (inr more) = found_no_room (omega (arith, k.within, more.0)) more.1
+
+  pub kept_ends : r.taken < length input → longest_answer ≤ room → (holidays : List ℕ) (a : Account) {p : Option Call}
       → parsed (take r.length kept) ≡ p
       → Leads from (r.taken + 1) (fed_from holidays input from room (state a begun line))
       (fed_behind holidays input (r.taken + 1) room (parsed_outcome holidays a p))
   kept_ends more left holidays a is =
       leads_on (k.leads holidays a room) (line_ends_lem holidays input r.taken room (stands a) more (k.ends more) left is)
 
-  pub found_kept : r.taken < length input → longest_answer ≤ room → {fields : Fields} → ReadIn (take r.length kept) fields
-      → {after : List ℕ} → after ≡ blank_line → Found input from room begun line after (ended_at fields (r.taken + 1))
+  pub found_kept : r.taken < length input → longest_answer ≤ room → {next : Next} → read_as next ≡ Some (parsed (take r.length kept))
+      → {after : List ℕ} → after ≡ blank_line → Finds input from room begun line after (found_at next (r.taken + 1) 0)
   found_kept more left read blank =
-      found_ended blank (omega arith) (omega (arith, k.onward)) left read.small
-      (λ holidays a. kept_ends more left holidays a read.is)
+      found_ended blank (omega arith) (omega (arith, k.onward)) left read (λ holidays a. kept_ends more left holidays a refl)
 
-pub found_frame : {input : List ℕ} {from room begun : ℕ} {line : List ℕ} {fields : Fields}
-    → begun ≡ 0 → line ≡ blank_line → (fields.width ≡ 0 → ⊥) → ReadAt input from fields → longest_answer ≤ room
-    → Found input from room begun line line (ended_at fields (from + fields.width + 1))
-found_frame {room = room} {fields = fields} none blank some read left =
-    found_ended blank (omega (arith, read.lies.within)) (omega arith) left read.small
-    (λ holidays a. rw (none, blank, parsed_frame fields some) (frame_taken read.lies room holidays a left))
+pub found_frame : {input : List ℕ} {from room begun width : ℕ} {line : List ℕ} {frame : Frame}
+    → begun ≡ 0 → line ≡ blank_line → Begins (part from (length input) input) (call_of frame) width → longest_answer ≤ room
+    → Finds input from room begun line line (found_at (variants.Frame frame) (from + width + 1) 0)
+found_frame {input} {from} {room} none blank begins left =
+    let b = rw (between_to_end input from (length input) (omega arith)) at begins in
+    found_ended blank (omega (arith, b.within, b.room, length-drop from input)) (omega arith) left refl
+    (λ holidays a. rw (none, blank) (frame_taken input from b room holidays a left))
 
 -- A feeding under way goes on behind a line whose answer was written.
 pub ahead_turn : (holidays input : List ℕ) (size : ℕ) (s : State) (o : Outcome)

@@ -1,12 +1,14 @@
 -- A feeding under way, line by line.
-use mathlib.Core.{Path.◌≡◌, Bool.true, Bool.false, List.List, List.◌++◌}
-use Rattle.std.specs.Prelude.{ℕ, ◌+◌, ◌-◌, ◌≤◌, ◌<◌, length, get_or, drop}
+use mathlib.Core.{Path.◌≡◌, List.List, List.◌++◌}
+use Rattle.std.specs.Prelude.{Option, Some, None, ℕ, ◌+◌, ◌-◌, ◌≤◌, ◌<◌, length, get_or, drop}
 use Rattle.account.specs.{declared.Account.Account, declared.Outcome.Outcome}
-use Rattle.frames.specs.{declared.Fields.Fields, Numbers.parsed_by, Numbers.no_fields, Numbers.SmallIn}
-use Rattle.frames.specs.Digits.{line_feed, written, ValueTable}
+use Rattle.intake.specs.declared.Call.{Call}
+use Rattle.frames.specs.Numbers.{call_of}
+use Rattle.frames.specs.Digits.{line_feed, written}
 use Rattle.answers.specs.Answers.{answer_line, longest_answer}
-use Rattle.lines.specs.Feeding.{kept_most, blank_line, between, Feeding, nothing, feeding, fed_of}
-use Rattle.lines.specs.{declared.State.State, declared.Fed.Fed, declared.Kept.Kept, declared.Next.Next, Line.parsed_outcome}
+use Rattle.lines.specs.Feeding.{blank_line, between, Feeding, nothing, feeding, fed_of}
+use Rattle.lines.specs.{declared.State.State, declared.Fed.Fed, declared.Kept.Kept, declared.Next.Next, declared.Found.Found, Line.parsed_outcome}
+use Rattle.lines.specs.declared.Next.TheVariants.{Waits, NoFrame, Frame}
 
 abbrev pub state : Account → ℕ → List ℕ → State
 state account long line = record { account = account; length = long; line = line }
@@ -30,11 +32,9 @@ abbrev pub fed_behind : List ℕ → List ℕ → ℕ → ℕ → Outcome → Fe
 fed_behind holidays input taken room o =
     writing (answer_line o.answer) (fed_from holidays input taken (room - length (answer_line o.answer)) (between o.account))
 
--- What the next line is looked for with: an input that goes on, the table, and a line kept so far that is blank where none has begun.
-pub record Seeking (input values : List ℕ) (from : ℕ) (line : List ℕ) (begun : ℕ) : Type 0 where
+-- What the next line is looked for with: an input that goes on, and a line kept so far that is blank where none has begun.
+pub record Seeking (input : List ℕ) (from : ℕ) (line : List ℕ) (begun : ℕ) : Type 0 where
   pub more : from < length input
-  pub table : ValueTable values
-  pub long : length line ≡ kept_most
   pub blank : begun ≡ 0 → line ≡ blank_line
 
 -- Where a line's characters end.
@@ -42,37 +42,37 @@ pub record Keeps (input : List ℕ) (from begun : ℕ) (line kept : List ℕ) (r
   pub onward : from ≤ r.taken
   pub within : r.taken ≤ length input
   pub ends : r.taken < length input → get_or input r.taken 0 ≡ line_feed
-  pub long : length kept ≡ kept_most
   pub none : r.length ≡ 0 → (begun ≡ 0) × (kept ≡ line)
   pub leads : (holidays : List ℕ) (a : Account) (room : ℕ)
       → Leads from r.taken (fed_from holidays input from room (state a begun line))
       (fed_from holidays input r.taken room (state a r.length kept))
 
+-- What a line that ended is read as; none where it waits.
+abbrev pub read_as : Next → Option (Option Call)
+read_as Waits = None
+read_as NoFrame = Some None
+read_as (Frame frame) = Some (Some (call_of frame))
+
 -- A line that ended: there is room for its answer, and what it comes to is what its frame's call comes to, or 40, or 14.
-pub record Ends (input : List ℕ) (from room begun : ℕ) (line kept : List ℕ) (r : Next) : Type 0 where
+pub record Ends (input : List ℕ) (from room begun : ℕ) (line kept : List ℕ) (r : Found) (read : Option Call) : Type 0 where
   pub room_left : longest_answer ≤ room
   pub onward : from < r.taken
   pub none_begun : r.length ≡ 0
   pub blank : kept ≡ blank_line
-  pub small : SmallIn r.fields
   pub leads : (holidays : List ℕ) (a : Account)
       → Leads from r.taken (fed_from holidays input from room (state a begun line))
-      (fed_behind holidays input r.taken room (parsed_outcome holidays a (parsed_by r.fields)))
+      (fed_behind holidays input r.taken room (parsed_outcome holidays a read))
 
 -- The next line.
-pub record Found (input : List ℕ) (from room begun : ℕ) (line kept : List ℕ) (r : Next) : Type 0 where
+pub record Finds (input : List ℕ) (from room begun : ℕ) (line kept : List ℕ) (r : Found) : Type 0 where
   pub within : r.taken ≤ length input
-  pub long : length kept ≡ kept_most
-  pub ended : r.ended ≡ true → Ends input from room begun line kept r
-  pub waits : r.ended ≡ false → (holidays : List ℕ) (a : Account)
+  pub ended : (read : Option Call) → read_as r.next ≡ Some read → Ends input from room begun line kept r read
+  pub waits : read_as r.next ≡ None → (holidays : List ℕ) (a : Account)
       → Leads from r.taken (fed_from holidays input from room (state a begun line)) (nothing (state a r.length kept))
   pub clear : r.length ≡ 0 → kept ≡ blank_line
 
-abbrev pub ended_at : Fields → ℕ → Next
-ended_at fields taken = record { ended = true; fields = fields; taken = taken; length = 0 }
-
-abbrev pub waiting_at : ℕ → ℕ → Next
-waiting_at taken kept = record { ended = false; fields = no_fields; taken = taken; length = kept }
+abbrev pub found_at : Next → ℕ → ℕ → Found
+found_at next taken kept = record { next = next; taken = taken; length = kept }
 
 -- What a piece makes of a state by a list that breaks its bounds: the account stays.
 pub record Declines (holidays input text : List ℕ) (s : State) (out : List ℕ) (r : Fed) : Type 0 where

@@ -1,14 +1,16 @@
 // The next line of a household's file that comes in pieces: a frame where it lies, and else its characters as they come.
 #![tactic(auto)]
 
-ghost use Rattle.std.specs.Prelude.{◌≡◌, true, false, List, ℕ, ◌+◌, min, ◌≤◌, length};
+ghost use Rattle.std.specs.Prelude.{◌≡◌, false, List, ℕ, ◌≤◌, length, take, Some};
+ghost use Rattle.account.specs.declared.Account.{Account};
 ghost use Rattle.duedays.specs.DueDays.{list_allowed};
-ghost use Rattle.lines.specs.Feeding.{kept_most, blank_line, fresh};
-ghost use Rattle.lines.specs.Going.{Seeking, Keeps, Found, waiting_at, Declines};
+ghost use Rattle.frames.specs.Frames.{parsed};
+ghost use Rattle.lines.specs.Feeding.{blank_line, fresh, kept};
+ghost use Rattle.lines.specs.Going.{state, read_as, Seeking, Keeps, Finds, Declines};
 
 use account::Account;
 use answers::LONGEST_ANSWER;
-use frames::Fields;
+use frames::Frame;
 
 // The characters kept of a line: one more than the longest frame has.
 pub const KEPT_MOST: usize = 31;
@@ -41,12 +43,18 @@ impl State {
     }
 }
 
-// What is found of the next line: whether it ended, the numbers of its frame (width 0: it is none), the bytes taken up to there, and how
-// many characters are kept of a line that has begun.
-#[derive(Clone, Copy)]
-pub struct Next {
-    pub ended: bool,
-    pub fields: Fields,
+// What the next line is read as, where it ended.
+#[derive(Clone, Copy, PartialEq, Eq, Debug)]
+pub enum Next {
+    Waits,
+    NoFrame,
+    Frame(Frame),
+}
+
+// What is found of the next line, the bytes taken up to there, and how many characters are kept of a line that has begun.
+#[derive(Clone, Copy, PartialEq, Eq, Debug)]
+pub struct Found {
+    pub next: Next,
     pub taken: usize,
     pub length: usize,
 }
@@ -54,72 +62,70 @@ pub struct Next {
 // The next line. Where none has begun, a whole frame is read where it lies.
 pub fn next_line(
     input: &[u8],
-    values: &[u64; 256],
     from: usize,
-    line: &mut [u8],
+    line: &mut [u8; KEPT_MOST],
     begun: usize,
     room: usize,
-) -> Next
-    requires { Seeking input.now values.now from line.old begun }
-    ensures { Found input.now from room begun line.old line.new result }
+) -> Found
+    requires { Seeking input.now from line.old begun }
+    ensures { Finds input.now from room begun line.old line.new result }
 {
-    if begun == 0 {
-        if room >= LONGEST_ANSWER {
-            let fields = frames::fields_at(input, values, from);
-            let width = fields.width;
-            if width != 0 {
-                return Next {
-                    ended: true,
-                    fields,
-                    taken: from + width + 1,
-                    length: 0,
-                };
-            }
+    if begun == 0 && room >= LONGEST_ANSWER {
+        if let Some((frame, width)) = frames::frame_at(&input[from..]) {
+            return Found {
+                next: Next::Frame(frame),
+                taken: from + width + 1,
+                length: 0,
+            };
         }
     }
-    kept_line(input, values, from, line, begun, room)
+    kept_line(input, from, line, begun, room)
 }
 
 // The next line, kept character by character. Before an end that the room left might not hold, it waits.
+#[cold]
+#[inline(never)]
 fn kept_line(
     input: &[u8],
-    values: &[u64; 256],
     from: usize,
-    line: &mut [u8],
+    line: &mut [u8; KEPT_MOST],
     begun: usize,
     room: usize,
-) -> Next
-    requires { Seeking input.now values.now from line.old begun }
-    ensures { Found input.now from room begun line.old line.new result }
+) -> Found
+    requires { Seeking input.now from line.old begun }
+    ensures { Finds input.now from room begun line.old line.new result }
 {
     let kept = keep_characters(input, from, line, begun);
     let taken = kept.taken;
     let length = kept.length;
-    if taken == input.len() {
-        return waiting(taken, length);
+    if taken == input.len() || room < LONGEST_ANSWER {
+        return Found {
+            next: Next::Waits,
+            taken,
+            length,
+        };
     }
-    if room < LONGEST_ANSWER {
-        return waiting(taken, length);
-    }
-    let end = shown_length(length);
-    let fields = frames::fields_in(&line[..end], values);
-    clear(line);
-    Next {
-        ended: true,
-        fields,
+    let next = read_kept(line, length);
+    *line = [0; KEPT_MOST];
+    Found {
+        next,
         taken: taken + 1,
         length: 0,
     }
 }
 
-fn waiting(taken: usize, kept: usize) -> Next
-    ensures { result ≡ waiting_at taken kept }
+// What the characters kept of a line are read as. A line of more than the longest frame has is none.
+fn read_kept(line: &[u8; KEPT_MOST], length: usize) -> Next
+    ensures { read_as result ≡ Some (parsed (take length line.now)) }
 {
-    Next {
-        ended: false,
-        fields: frames::no_frame(),
-        taken,
-        length: kept,
+    if length >= KEPT_MOST {
+        return Next::NoFrame;
+    }
+    let mut ended = *line;
+    ended[length] = b'\n';
+    match frames::frame_at(&ended) {
+        Some((frame, width)) if width == length => Next::Frame(frame),
+        _ => Next::NoFrame,
     }
 }
 
@@ -129,7 +135,6 @@ pub fn decline_lines(state: State, input: &[u8], out: &mut [u8]) -> Fed
     ensures { (holidays : List ℕ) → list_allowed holidays ≡ false
         → Declines holidays input.now out.old state out.new result }
 {
-    let pairs = answers::pair_table();
     let account = state.account;
     let mut line = state.line;
     let mut length = state.length;
@@ -145,7 +150,7 @@ pub fn decline_lines(state: State, input: &[u8], out: &mut [u8]) -> Fed
         if out.len() - written < LONGEST_ANSWER {
             break;
         }
-        written = answers::put_refusal(14, out, written, &pairs);
+        written += answers::put_refusal(14, &mut out[written..]);
         line = [0u8; KEPT_MOST];
         length = 0;
         taken += 1;
@@ -169,42 +174,29 @@ pub struct Kept {
 }
 
 // Keeps the first characters of a line, up to its end.
-fn keep_characters(input: &[u8], from: usize, line: &mut [u8], begun: usize) -> Kept
-    requires from_in_bounds { from ≤ length input.now }
-    requires line_len { length line.old ≡ kept_most }
+fn keep_characters(input: &[u8], from: usize, line: &mut [u8; KEPT_MOST], begun: usize) -> Kept
+    requires { from ≤ length input.now }
     ensures { Keeps input.now from begun line.old line.new result }
 {
     let mut taken = from;
     let mut length = begun;
-    while taken < input.len() {
-        let character = input[taken];
-        if character == 10 {
+    for character in &input[from..] {
+        if *character == b'\n' {
             break;
         }
         taken += 1;
-        if length < KEPT_MOST {
-            line[length] = character;
-            length += 1;
-        }
+        length = keep(line, length, *character);
     }
     Kept { taken, length }
 }
 
-// A line that has ended leaves no trace.
-fn clear(line: &mut [u8])
-    requires { length line.old ≡ kept_most }
-    ensures { line.new ≡ blank_line }
+// Keeps a character where there is room for it: how many are kept.
+fn keep(line: &mut [u8; KEPT_MOST], length: usize, character: u8) -> usize
+    ensures { (account : Account) → state account result line.new ≡ kept (state account length line.old) character }
 {
-    let mut i: usize = 0;
-    while i < line.len() {
-        line[i] = 0;
-        i += 1;
+    if length < KEPT_MOST {
+        line[length] = character;
+        return length + 1;
     }
-}
-
-// The characters kept of a line.
-fn shown_length(count: usize) -> usize
-    ensures { result ≡ min count kept_most }
-{
-    if count < KEPT_MOST { count } else { KEPT_MOST }
+    length
 }

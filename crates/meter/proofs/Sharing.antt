@@ -1,11 +1,14 @@
 -- Laws of the sharing rule, over any number of periods. Assumes nothing.
-use Rattle.common.proofs.Words.{◌≡◌, refl, ap, ◌∙◌, ⊎_elim, Bool, true, false, cond, List, [], ◌∷◌, ◌++◌, map, reverse, ℕ, suc, ◌+◌, ◌-◌}
-use Rattle.common.proofs.Words.{◌*◌, ◌≤◌, ◌<◌, le_refl, suc-mul, eq-zero-or-pos, arith, leb, length, length-append, length-reverse}
+use Rattle.common.proofs.Words.{◌≡◌, refl, ap, ◌∙◌, ⊎_elim, Bool, true, false, cond, List, [], ◌∷◌, ◌++◌, map, reverse, ℕ, suc, ◌+◌, ◌-◌, ◌/◌, ◌%◌}
+use Rattle.common.proofs.Words.{min, ◌*◌, ◌≤◌, ◌<◌, le_refl, suc-mul, eq-zero-or-pos, arith, leb, length, length-append, length-reverse}
 use Rattle.common.proofs.Words.{length-map, leb-true}
-use native.Mathlib.Nat.{div-lt_iff_lt-mul, le-mul_of_pos_right}
+use Rattle.common.proofs.Words.{add-one, take, drop, get_or, take-append_seam}
+use lib.ListN.{get_or-append}
+use native.Mathlib.Nat.{div-lt_iff_lt-mul, le-div_iff_mul-le, le-mul_of_pos_right}
+use Rattle.std.proofs.lemmas.Grind.{div_ceil_times}
 use Rattle.lists.specs.Sum.{sum}
 use Rattle.lists.proofs.Sum.{total_append, total_reverse, total_map, total_at_most}
-use Rattle.meter.specs.Sharing.{ceiling, sharers, shares, sharing, estimated, shared_pool, final_volumes}
+use Rattle.meter.specs.Sharing.{ceiling, sharers, shares, sharing, estimated, shared_pool, final_volumes, filled_with}
 use Rattle.meter.specs.declared.Estimate.{Estimate}
 
 -- Each part is at most what is left.
@@ -14,6 +17,15 @@ part_at_most left k h = omega (arith, (div-lt_iff_lt-mul {k = k} h).1 bound)
   where
     bound : left + (k - 1) < suc left * k
     bound = omega (arith, suc-mul left k, le-mul_of_pos_right left h)
+
+-- The library's division that rounds up.
+pub ceiling_is_div_ceil : (left k : ℕ) → 1 ≤ k → (left + (k - 1)) / k ≡ left / k + min 1 (left % k)
+ceiling_is_div_ceil left k h =
+    let q : ℕ = left / k + min 1 (left % k) in
+    let bounds : (left ≤ q * k) × (q * k < left + k) = div_ceil_times left k h in
+    let below : (left + (k - 1)) / k < suc q = (div-lt_iff_lt-mul {k = k} h).1 (omega (arith, suc-mul q k, bounds)) in
+    let above : q ≤ (left + (k - 1)) / k = (le-div_iff_mul-le {k = k} h).1 (omega (arith, bounds)) in
+    omega arith
 
 -- The last period that shares takes all that is left.
 pub last_part : (left : ℕ) → ceiling left 1 ≡ left
@@ -26,6 +38,9 @@ one_most false = omega arith
 
 pub sharers_at_most : (periods : List Bool) → sharers periods ≤ length periods
 sharers_at_most periods = omega (arith, total_at_most (λ shares. cond shares 1 0) 1 one_most periods)
+
+pub sharers_standing : (standing : List Estimate) → sharers (map sharing standing) ≤ length standing
+sharers_standing standing = omega (arith, sharers_at_most (map sharing standing), length-map standing sharing)
 
 none_left : (periods : List Bool) (left : ℕ) → sharers periods ≡ 0 → sum (shares left periods) ≡ 0
 none_left [] left e = refl
@@ -95,3 +110,17 @@ module _ (estimates : List Estimate) (pool : ℕ) where
     where
       stand : leb (estimated estimates) pool ≡ true → length (volumes ++ rest) ≡ suc (length estimates)
       stand _ = rw (length-append volumes rest, length-map estimates (λ estimate. estimate.volume)) (omega arith)
+
+  -- In the array that they are written into they are the front, and this period's is behind those of the estimates.
+  pub final_front : (lent : List ℕ) → take (length estimates + 1) (filled_with (final_volumes estimates pool) lent) ≡ final_volumes estimates pool
+  final_front lent =
+      rw (add-one (length estimates), ← final_length)
+      (take-append_seam (final_volumes estimates pool) (drop (length (final_volumes estimates pool)) lent))
+
+  pub final_last : (lent : List ℕ)
+      → get_or (filled_with (final_volumes estimates pool) lent) (length estimates) 0
+      ≡ get_or (final_volumes estimates pool) (length (final_volumes estimates pool) - 1) 0
+  final_last lent =
+      let final = final_volumes estimates pool in
+      let last : length final - 1 ≡ length estimates = omega (arith, final_length) in
+      rw last (get_or-append final (drop (length final) lent) 0 (length estimates) (omega (arith, final_length)))

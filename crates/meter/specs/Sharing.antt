@@ -1,6 +1,6 @@
 -- The volumes that a real closing makes final: articles 14(1), 14(4) and 14(5).
 use Rattle.std.specs.Prelude.{◌≡◌, Bool, true, false, cond, not, List, [], ◌∷◌, ◌++◌, map, reverse, ℕ, ◌+◌, ◌-◌, ◌/◌, ◌≤◌}
-use lib.{Dec.leb, ListN.length, ListN.take}
+use lib.{Dec.leb, ListN.length, ListN.take, ListN.drop}
 use Rattle.lists.specs.{Pad.pad, Sum.total}
 use Rattle.tariff.specs.Limits.{most_volume}
 use Rattle.meter.specs.{Limits.most_misses, declared.Estimate.Estimate, declared.Estimates.Estimates, declared.Volumes.Volumes}
@@ -60,6 +60,10 @@ standing estimates = take estimates.count estimates.periods
 -- Volumes as the array of an answer holds them.
 abbrev pub volumes_of : List ℕ → Volumes
 volumes_of volumes = record { count = length volumes; volumes = pad 7 0 volumes }
+
+-- Volumes in a lent array, from its start.
+abbrev pub filled_with : List ℕ → List ℕ → List ℕ
+filled_with volumes before = volumes ++ drop (length volumes) before
 
 abbrev pub AtMostSix : Estimates → Type 0
 AtMostSix estimates = estimates.count ≤ most_misses

@@ -8,12 +8,13 @@ use lib.ListN.{length, length-append}
 use lib.Seq.{length-take-le}
 use Rattle.lists.specs.Every.{Every}
 use Rattle.tariff.specs.declared.Fuel.{Fuel}
+use Rattle.tariff.specs.Price.{price_of}
 use Rattle.tariff.proofs.Bounds.{price_most}
 use Rattle.meter.specs.{declared.Estimate.Estimate, declared.Estimates.Estimates, Sharing.standing}
 use Rattle.ledger.specs.{Limits.last_call_day, Posting.NetBounds, Entries.EntryBounds}
 use Rattle.intake.specs.declared.Call.TheVariants.{Opening, Reading, Missed, Absent, Exchange, Disconnection, Reconnection, Cancellation}
 use Rattle.intake.specs.declared.Call.TheVariants.{Payment, StoppedCancellation}
-use Rattle.intake.specs.{declared.Head.Head, declared.Call.Call, Limits.most_misses, Limits.most_volume}
+use Rattle.intake.specs.{declared.Head.Head, declared.Call.Call, Limits.most_misses, Limits.most_volume, Limits.most_charge}
 use Rattle.intake.specs.{Statuses.is_stopped, Statuses.start_of}
 use Rattle.intake.specs.{Periods.days_of, Refusals.reading_refusal, Refusals.miss_refusal, Refusals.first_refusal}
 use Rattle.intake.specs.Heads.{HeadBounds, EstimateBounds}
@@ -29,14 +30,17 @@ none_within : EntryBounds no_entry
 none_within = omega arith
 
 module _ (h : Head) (w : HeadBounds h) where
+  pub missed_most : (day : ℕ) (fuel : Fuel) (volume : ℕ) → volume ≤ most_volume → miss_refusal h day fuel ≡ 0
+      → price_of (days_of (start_of h.status) day) fuel volume ≤ most_charge
+  missed_most day fuel volume most e =
+      price_most (days_of (start_of h.status) day) fuel volume ((miss_ready h day fuel w e).priced volume most)
+
   miss_within : (day : ℕ) (fuel : Fuel) (absent : Bool) (volume : ℕ) → volume ≤ most_volume → miss_refusal h day fuel ≡ 0
       → EntryBounds (miss_plan h day fuel absent volume).entry
-  miss_within day fuel absent volume most e =
-      let ready = miss_ready h day fuel w e in
-      omega (arith, ready.day_most, price_most (days_of (start_of h.status) day) fuel volume (ready.priced volume most))
+  miss_within day fuel absent volume most e = omega (arith, (miss_ready h day fuel w e).day_most, missed_most day fuel volume most e)
 
   module _ (estimates : List Estimate) (six : length estimates ≤ most_misses) (within : Every EstimateBounds estimates) where
-    pub reading_within : (day reading : ℕ) (fuel : Fuel) → reading_refusal h day reading fuel ≡ 0
+    reading_within : (day reading : ℕ) (fuel : Fuel) → reading_refusal h day reading fuel ≡ 0
         → (day ≤ last_call_day) × NetBounds (read_net h estimates day reading fuel)
     reading_within day reading fuel e =
         let ready = reading_ready h day reading fuel w e in

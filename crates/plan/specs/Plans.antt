@@ -1,6 +1,6 @@
 -- What a call plans: the head after it, what becomes of the estimates, what is asked of the ledger, and the numbers of its answer.
-use Rattle.std.specs.Prelude.{◌≡◌, Bool, true, false, cond, List, [], ◌∷◌, ◌++◌, ℕ, ◌+◌, ◌≤◌, ◌<◌}
-use lib.{Dec.eqb, IntN.pos, ListN.length}
+use Rattle.std.specs.Prelude.{Bool, true, false, cond, List, [], ◌∷◌, ◌++◌, ℕ, ◌+◌, ◌≤◌, ◌<◌}
+use lib.{Dec.eqb, IntN.pos}
 use Rattle.tariff.specs.{declared.Fuel.Fuel, Price.price_of}
 use Rattle.meter.specs.Metering.{set_on, exchanged_for, read_at, missed_at}
 use Rattle.meter.specs.{declared.Estimate.Estimate, declared.Estimates.Estimates, Sharing.standing}
@@ -9,7 +9,7 @@ use Rattle.intake.specs.declared.Call.TheVariants.{Opening, Reading, Missed, Abs
 use Rattle.intake.specs.declared.Call.TheVariants.{Payment, StoppedCancellation}
 use Rattle.intake.specs.declared.Status.{Status}
 use Rattle.intake.specs.declared.Status.TheVariants.{Supplied, Stopped, Cancelled}
-use Rattle.intake.specs.{declared.Head.Head, declared.Call.Call, Limits.most_misses, Heads.head_on, Heads.HeadBounds, Heads.EstimatesFit}
+use Rattle.intake.specs.{declared.Head.Head, declared.Call.Call, Limits.most_misses, Heads.head_on}
 use Rattle.intake.specs.{Statuses.is_cancelled, Statuses.start_of, Statuses.stop_of}
 use Rattle.intake.specs.{Periods.days_of, Periods.day_after, Periods.resumed_start}
 use Rattle.intake.specs.Refusals.{reading_refusal, first_refusal}
@@ -17,14 +17,8 @@ use Rattle.plan.specs.declared.Change.{Change}
 use Rattle.plan.specs.declared.Change.TheVariants.{Kept, Cleared, Added}
 use Rattle.plan.specs.declared.Then.{Then}
 use Rattle.plan.specs.declared.Then.TheVariants.{Goes, Stops, Ends}
-use Rattle.plan.specs.{declared.ClosingRead.ClosingRead, declared.Miss.Miss, declared.Plan.Plan}
+use Rattle.plan.specs.{declared.ClosingRead.ClosingRead, declared.Plan.Plan}
 use Rattle.closing.specs.{declared.Figures.Figures, Closing.stored_estimates, Closing.finals, Closing.read_figures}
-
--- What a plan over estimates begins from: a sound head, its estimates, and a lent array that has room for every volume.
-pub record Plannable (h : Head) (estimates : Estimates) (volumes : List ℕ) : Type 0 where
-  pub bounds : HeadBounds h
-  pub fit : EstimatesFit h estimates
-  pub long : length volumes ≡ 7
 
 -- What becomes of the estimates.
 abbrev pub changed : Change → Estimates → Estimates
@@ -179,59 +173,3 @@ planned h estimates call = planned_as (first_refusal h call) (passed_plan h esti
 
 unfoldable pub planned_volumes : Head → List Estimate → Call → List ℕ
 planned_volumes h estimates call = volumes_as (first_refusal h call) (passed_volumes h estimates call)
-
--- 02, 06 and 08, and 03 and 04, by what they have in common.
-abbrev pub no_reading : ClosingRead
-no_reading = record { day = 0; reading = 0; fuel = record { lng = 0; propane = 0 }; then = Ends }
-
-abbrev pub reading_in : Call → ClosingRead
-reading_in (Opening day reading digits) = no_reading
-reading_in (Reading day reading fuel) = record { day = day; reading = reading; fuel = fuel; then = Goes }
-reading_in (Missed day fuel) = no_reading
-reading_in (Absent day fuel) = no_reading
-reading_in (Exchange day old new digits) = no_reading
-reading_in (Disconnection day reading fuel) = record { day = day; reading = reading; fuel = fuel; then = Stops }
-reading_in (Reconnection day reading digits) = no_reading
-reading_in (Cancellation day reading fuel) = record { day = day; reading = reading; fuel = fuel; then = Ends }
-reading_in (Payment day yen) = no_reading
-reading_in (StoppedCancellation day) = no_reading
-
-abbrev pub no_miss : Miss
-no_miss = record { day = 0; fuel = record { lng = 0; propane = 0 }; absent = true }
-
-abbrev pub miss_in : Call → Miss
-miss_in (Opening day reading digits) = no_miss
-miss_in (Reading day reading fuel) = no_miss
-miss_in (Missed day fuel) = record { day = day; fuel = fuel; absent = false }
-miss_in (Absent day fuel) = record { day = day; fuel = fuel; absent = true }
-miss_in (Exchange day old new digits) = no_miss
-miss_in (Disconnection day reading fuel) = no_miss
-miss_in (Reconnection day reading digits) = no_miss
-miss_in (Cancellation day reading fuel) = no_miss
-miss_in (Payment day yen) = no_miss
-miss_in (StoppedCancellation day) = no_miss
-
-abbrev pub misses : Call → Bool
-misses (Opening day reading digits) = false
-misses (Reading day reading fuel) = false
-misses (Missed day fuel) = true
-misses (Absent day fuel) = true
-misses (Exchange day old new digits) = false
-misses (Disconnection day reading fuel) = false
-misses (Reconnection day reading digits) = false
-misses (Cancellation day reading fuel) = false
-misses (Payment day yen) = false
-misses (StoppedCancellation day) = false
-
--- A call that reads the meter to close a period: it alone looks at the estimates.
-abbrev pub reads : Call → Bool
-reads (Opening day reading digits) = false
-reads (Reading day reading fuel) = true
-reads (Missed day fuel) = false
-reads (Absent day fuel) = false
-reads (Exchange day old new digits) = false
-reads (Disconnection day reading fuel) = true
-reads (Reconnection day reading digits) = false
-reads (Cancellation day reading fuel) = true
-reads (Payment day yen) = false
-reads (StoppedCancellation day) = false

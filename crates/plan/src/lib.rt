@@ -33,14 +33,6 @@ pub struct ClosingRead {
     pub then: Then,
 }
 
-// What 03 and 04 have in common, and whether absence is known.
-#[derive(Clone, Copy)]
-pub struct Miss {
-    pub day: u16,
-    pub fuel: Fuel,
-    pub absent: bool,
-}
-
 // `number` is 1 to 11, or 0. `asks`: the entry is asked of the ledger. The last three are numbers of the answer.
 #[derive(Clone, Copy)]
 pub struct Plan {

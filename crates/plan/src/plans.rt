@@ -1,6 +1,5 @@
 // The plan of each call.
-ghost use Rattle.std.specs.Prelude.{◌≡◌, true, false, [], ◌≤◌, length};
-ghost use Rattle.meter.specs.Sharing.{standing};
+ghost use Rattle.std.specs.Prelude.{◌≡◌, true, false, ◌≤◌};
 ghost use Rattle.ledger.specs.Limits.{last_call_day};
 ghost use Rattle.ledger.specs.Posting.{NetBounds};
 ghost use Rattle.intake.specs.Statuses.{is_new, is_stopped, stop_of};
@@ -10,11 +9,12 @@ ghost use Rattle.intake.specs.Refusals.{begins, dial_refusal, miss_refusal, exch
 ghost use Rattle.intake.specs.Heads.{HeadBounds};
 ghost use Rattle.plan.specs.Plans.{ends, status_after, quiet_plan, planned_as, begun_plan, exchanged_plan, payment_plan, stopped_plan};
 ghost use Rattle.plan.specs.Plans.{asking_plan, money_entry, held_entry, miss_plan, missed_volume, figured_plan, read_planned};
-ghost use Rattle.plan.specs.Plans.{read_volumes, reading_in, miss_in, misses, planned, planned_volumes, reads, Plannable};
-ghost use Rattle.closing.specs.Closing.{filled_with};
+ghost use Rattle.plan.specs.Plans.{read_volumes, planned, planned_volumes};
+ghost use Rattle.meter.specs.Sharing.{filled_with};
+ghost use Rattle.closing.specs.Closing.{StandingBounds};
 
-use crate::{Change, ClosingRead, Miss, Plan, Then};
-use closing::{Figures, close_alone, close_over, pool_to};
+use crate::{Change, ClosingRead, Plan, Then};
+use closing::{Figures, close, pool_to};
 use intake::periods::{days_of, resumed_start};
 use intake::refusals::{
     dial_refusal, exchange_refusal, miss_refusal, payment_refusal, reading_refusal, start_refusal,
@@ -22,7 +22,7 @@ use intake::refusals::{
 use intake::statuses::{is_cancelled, is_new, is_stopped, start_of, stop_of};
 use intake::{Call, Head, Status};
 use ledger::{Entry, charge_of, credit_of};
-use meter::{Estimate, Estimates, Meter};
+use meter::{Estimate, Meter};
 use tariff::{Fuel, price};
 
 const NO_ENTRY: Entry = Entry {
@@ -33,175 +33,55 @@ const NO_ENTRY: Entry = Entry {
     posts: false,
 };
 
-const NO_READING: ClosingRead = ClosingRead {
-    day: 0,
-    reading: 0,
-    fuel: Fuel { lng: 0, propane: 0 },
-    then: Then::Ends,
-};
-
-const NO_MISS: Miss = Miss {
-    day: 0,
-    fuel: Fuel { lng: 0, propane: 0 },
-    absent: true,
-};
-
-// Any call, with the estimates that stand.
-pub fn plan_with(head: Head, estimates: Estimates, call: Call, volumes: &mut [u32; 7]) -> Plan
-    requires { Plannable head estimates volumes.old }
-    ensures value { result ≡ planned head (standing estimates) call }
-    ensures volumes_after { volumes.new ≡ filled_with (planned_volumes head (standing estimates) call) volumes.old }
-{
-    if over(head.standing, call) {
-        return plan_over(head, estimates, call, volumes);
-    }
-    plan_call(head, call, volumes)
-}
-
-// Whether a call looks at the estimates: it reads the meter, and some stand.
-pub fn over(standing: usize, call: Call) -> bool
-    ensures call_value { result ≡ true → reads call ≡ true }
-    ensures standing_value { result ≡ false → reads call ≡ true → standing ≡ 0 }
-{
-    if standing == 0 {
-        return false;
-    }
-    reads(call)
-}
-
-fn reads(call: Call) -> bool
-    ensures { result ≡ reads call }
-{
-    match call {
-        Call::Reading {
-            day: _,
-            reading: _,
-            fuel: _,
-        } => true,
-        Call::Disconnection {
-            day: _,
-            reading: _,
-            fuel: _,
-        } => true,
-        Call::Cancellation {
-            day: _,
-            reading: _,
-            fuel: _,
-        } => true,
-        _ => false,
-    }
-}
-
-// A call that looks at no estimate.
-pub fn plan_call(head: Head, call: Call, volumes: &mut [u32; 7]) -> Plan
+// Any call, over the estimates that stand. The three calls that read the meter to close a period go one road.
+#[tactic(auto, unfolding(intake::specs::Refusals::first_refusal, crate::specs::Plans::planned, crate::specs::Plans::planned_volumes, crate::specs::Plans::passed_plan, crate::specs::Plans::passed_volumes))]
+pub fn plan_with(head: Head, standing: &[Estimate], call: Call, volumes: &mut [u32; 7]) -> Plan
     requires head_bounds { HeadBounds head }
-    requires volumes_len { length volumes.old ≡ 7 }
-    ensures value { result ≡ planned head [] call }
-    ensures volumes_after { volumes.new ≡ filled_with (planned_volumes head [] call) volumes.old }
+    requires standing_bounds { StandingBounds standing.now }
+    ensures value { result ≡ planned head standing.now call }
+    ensures volumes_after { volumes.new ≡ filled_with (planned_volumes head standing.now call) volumes.old }
 {
-    if reads(call) {
-        return plan_reading(head, reading_in(call), volumes);
-    }
-    if misses(call) {
-        return plan_miss(head, miss_in(call));
-    }
-    match call {
+    let read = match call {
         Call::Opening {
             day,
             reading,
             digits,
-        } => plan_opening(head, day, reading, digits),
+        } => return plan_opening(head, day, reading, digits),
+        Call::Reading { day, reading, fuel } => ClosingRead {
+            day,
+            reading,
+            fuel,
+            then: Then::Goes,
+        },
+        Call::Missed { day, fuel } => return plan_miss(head, day, fuel, false),
+        Call::Absent { day, fuel } => return plan_miss(head, day, fuel, true),
         Call::Exchange {
             day,
             old,
             new,
             digits,
-        } => plan_exchange(head, day, old, new, digits),
+        } => return plan_exchange(head, day, old, new, digits),
+        Call::Disconnection { day, reading, fuel } => ClosingRead {
+            day,
+            reading,
+            fuel,
+            then: Then::Stops,
+        },
         Call::Reconnection {
             day,
             reading,
             digits,
-        } => plan_reconnection(head, day, reading, digits),
-        Call::Payment { day, yen } => plan_payment(head, day, yen),
-        Call::StoppedCancellation { day } => plan_stopped(head, day),
-        _ => quiet(0, head),
-    }
-}
-
-// A call that reads the meter, where estimates stand.
-pub fn plan_over(head: Head, estimates: Estimates, call: Call, volumes: &mut [u32; 7]) -> Plan
-    requires plannable { Plannable head estimates volumes.old }
-    requires call_value { reads call ≡ true }
-    ensures value { result ≡ planned head (standing estimates) call }
-    ensures volumes_after { volumes.new ≡ filled_with (planned_volumes head (standing estimates) call) volumes.old }
-{
-    plan_reading_over(head, estimates, reading_in(call), volumes)
-}
-
-// 02, 06 and 08 by what they have in common, so that their road is one.
-fn reading_in(call: Call) -> ClosingRead
-    ensures { result ≡ reading_in call }
-{
-    match call {
-        Call::Reading { day, reading, fuel } => {
-            ClosingRead {
-                day,
-                reading,
-                fuel,
-                then: Then::Goes,
-            }
-        }
-        Call::Disconnection { day, reading, fuel } => {
-            ClosingRead {
-                day,
-                reading,
-                fuel,
-                then: Then::Stops,
-            }
-        }
-        Call::Cancellation { day, reading, fuel } => {
-            ClosingRead {
-                day,
-                reading,
-                fuel,
-                then: Then::Ends,
-            }
-        }
-        _ => NO_READING,
-    }
-}
-
-fn misses(call: Call) -> bool
-    ensures { result ≡ misses call }
-{
-    match call {
-        Call::Missed { day: _, fuel: _ } => true,
-        Call::Absent { day: _, fuel: _ } => true,
-        _ => false,
-    }
-}
-
-// 03 and 04 likewise.
-fn miss_in(call: Call) -> Miss
-    ensures { result ≡ miss_in call }
-{
-    match call {
-        Call::Missed { day, fuel } => {
-            Miss {
-                day,
-                fuel,
-                absent: false,
-            }
-        }
-        Call::Absent { day, fuel } => {
-            Miss {
-                day,
-                fuel,
-                absent: true,
-            }
-        }
-        _ => NO_MISS,
-    }
+        } => return plan_reconnection(head, day, reading, digits),
+        Call::Cancellation { day, reading, fuel } => ClosingRead {
+            day,
+            reading,
+            fuel,
+            then: Then::Ends,
+        },
+        Call::Payment { day, yen } => return plan_payment(head, day, yen),
+        Call::StoppedCancellation { day } => return plan_stopped(head, day),
+    };
+    plan_reading(head, standing, read, volumes)
 }
 
 // 01: opening
@@ -352,17 +232,17 @@ fn asking(head: Head, status: Status, entry: Entry) -> Plan
 }
 
 // 03 bills the volume of the period just before, 04 bills 0.
-fn plan_miss(head: Head, miss: Miss) -> Plan
+#[inline(always)]
+fn plan_miss(head: Head, day: u16, fuel: Fuel, absent: bool) -> Plan
     requires { HeadBounds head }
-    ensures { result ≡ planned_as (miss_refusal head miss.day miss.fuel)
-        (miss_plan head miss.day miss.fuel miss.absent (missed_volume head miss.absent)) head }
+    ensures { result ≡ planned_as (miss_refusal head day fuel) (miss_plan head day fuel absent (missed_volume head absent)) head }
 {
-    let number = miss_refusal(head, miss.day, miss.fuel);
+    let number = miss_refusal(head, day, fuel);
     if number != 0 {
         return quiet(number, head);
     }
-    let volume = missed_volume(head, miss.absent);
-    estimate_period(head, miss.day, miss.fuel, miss.absent, volume)
+    let volume = missed_volume(head, absent);
+    estimate_period(head, day, fuel, absent, volume)
 }
 
 fn missed_volume(head: Head, absent: bool) -> u32
@@ -372,6 +252,8 @@ fn missed_volume(head: Head, absent: bool) -> u32
 }
 
 // The period is billed on an estimate, which stands until a reading.
+#[inline(always)]
+#[tactic(auto, using(crate::proofs::Bounds::missed_most))]
 fn estimate_period(head: Head, day: u16, fuel: Fuel, absent: bool, volume: u32) -> Plan
     requires head_bounds { HeadBounds head }
     requires fuel_value { miss_refusal head day fuel ≡ 0 }
@@ -417,40 +299,24 @@ fn estimate_period(head: Head, day: u16, fuel: Fuel, absent: bool, volume: u32) 
     }
 }
 
-// 02, 06 and 08 where no estimate stands
-fn plan_reading(head: Head, read: ClosingRead, volumes: &mut [u32; 7]) -> Plan
-    requires head_bounds { HeadBounds head }
-    requires volumes_len { length volumes.old ≡ 7 }
-    ensures value { result ≡ read_planned head [] read }
-    ensures volumes_after { volumes.new ≡ filled_with (read_volumes head [] read) volumes.old }
-{
-    let number = reading_refusal(head, read.day, read.reading, read.fuel);
-    if number != 0 {
-        return quiet(number, head);
-    }
-    let figures = close_alone(head, read.day, read.reading, read.fuel, volumes);
-    let then = read.then;
-    after_reading(head, read.day, read.reading, then, figures)
-}
-
-// 02, 06 and 08 where estimates stand
-fn plan_reading_over(
+// 02, 06 and 08, over the estimates that stand.
+fn plan_reading(
     head: Head,
-    estimates: Estimates,
+    standing: &[Estimate],
     read: ClosingRead,
     volumes: &mut [u32; 7],
 ) -> Plan
-    requires { Plannable head estimates volumes.old }
-    ensures value { result ≡ read_planned head (standing estimates) read }
-    ensures volumes_after { volumes.new ≡ filled_with (read_volumes head (standing estimates) read) volumes.old }
+    requires head_bounds { HeadBounds head }
+    requires standing_bounds { StandingBounds standing.now }
+    ensures value { result ≡ read_planned head standing.now read }
+    ensures volumes_after { volumes.new ≡ filled_with (read_volumes head standing.now read) volumes.old }
 {
     let number = reading_refusal(head, read.day, read.reading, read.fuel);
     if number != 0 {
         return quiet(number, head);
     }
-    let figures = close_over(head, estimates, read.day, read.reading, read.fuel, volumes);
-    let then = read.then;
-    after_reading(head, read.day, read.reading, then, figures)
+    let figures = close(head, standing, read.day, read.reading, read.fuel, volumes);
+    after_reading(head, read.day, read.reading, read.then, figures)
 }
 
 // All volumes are final, so no estimate stands and the pool is 0. A cancellation posts the interest that it brings, too.

@@ -7,12 +7,10 @@
 
 use account::Account;
 use intake::Status;
-use samples::{
-    FUEL, counted_estimates, counted_items, line, many_estimates, show, supplied, text,
-    with_charge, with_credit, with_days, with_dial, with_fuel, with_held, with_interest,
-    with_item_days, with_latest, with_pool, with_previous, with_price, with_status, with_volume,
-};
+use ledger::{Item, Ledger};
+use samples::{FUEL, INTEREST, OPEN, but, line, show, supplied, text};
 use std::io;
+use tariff::Fuel;
 
 fn main(rt: HostRuntime) -> io::Result<()> {
     statuses(&rt)?;
@@ -32,34 +30,61 @@ fn main(rt: HostRuntime) -> io::Result<()> {
 fn statuses(rt: &impl Print) -> io::Result<()> {
     show(rt, Account::new(), b"new")?;
     show(rt, supplied(), b"supplied")?;
-    show(rt, with_status(Status::Stopped { stop: 90 }), b"stopped")?;
-    show(rt, with_held(Status::Cancelled, 0), b"cancelled")?;
-    show(rt, with_held(Status::Cancelled, 1), b"cancelled, 1 held")?;
     show(
         rt,
-        with_status(Status::Supplied { start: 101 }),
+        but(
+            supplied(),
+            |account| account.status = Status::Stopped { stop: 90 },
+        ),
+        b"stopped",
+    )?;
+    show(rt, cancelled(0), b"cancelled")?;
+    show(rt, cancelled(1), b"cancelled, 1 held")?;
+    show(
+        rt,
+        but(
+            supplied(),
+            |account| account.status = Status::Supplied { start: 101 },
+        ),
         b"period start 101, latest day 100",
     )?;
     show(
         rt,
-        with_status(Status::Supplied { start: 102 }),
+        but(
+            supplied(),
+            |account| account.status = Status::Supplied { start: 102 },
+        ),
         b"period start 102, latest day 100",
     )?;
     show(
         rt,
-        with_status(Status::Stopped { stop: 100 }),
+        but(
+            supplied(),
+            |account| account.status = Status::Stopped { stop: 100 },
+        ),
         b"stop day 100, latest day 100",
     )?;
     show(
         rt,
-        with_status(Status::Stopped { stop: 101 }),
+        but(
+            supplied(),
+            |account| account.status = Status::Stopped { stop: 101 },
+        ),
         b"stop day 101, latest day 100",
     )
 }
 
 fn meters(rt: &impl Print) -> io::Result<()> {
-    show(rt, with_latest(36_094), b"latest day 36094")?;
-    show(rt, with_latest(36_095), b"latest day 36095")?;
+    show(
+        rt,
+        but(supplied(), |account| account.latest = 36_094),
+        b"latest day 36094",
+    )?;
+    show(
+        rt,
+        but(supplied(), |account| account.latest = 36_095),
+        b"latest day 36095",
+    )?;
     show(rt, with_dial(0, 0), b"0 digits")?;
     show(rt, with_dial(3, 130), b"3 digits")?;
     show(rt, with_dial(5, 130), b"5 digits")?;
@@ -68,17 +93,55 @@ fn meters(rt: &impl Print) -> io::Result<()> {
     show(rt, with_dial(4, 10_000), b"dial 10000 of 4 digits")?;
     show(rt, with_dial(5, 99_999), b"dial 99999 of 5 digits")?;
     show(rt, with_dial(5, 100_000), b"dial 100000 of 5 digits")?;
-    show(rt, with_pool(99_999), b"pool 99999")?;
-    show(rt, with_pool(100_000), b"pool 100000")?;
-    show(rt, with_previous(99_999), b"previous volume 99999")?;
-    show(rt, with_previous(100_000), b"previous volume 100000")
+    show(
+        rt,
+        but(supplied(), |account| account.meter.pool = 99_999),
+        b"pool 99999",
+    )?;
+    show(
+        rt,
+        but(supplied(), |account| account.meter.pool = 100_000),
+        b"pool 100000",
+    )?;
+    show(
+        rt,
+        but(supplied(), |account| account.meter.previous = 99_999),
+        b"previous volume 99999",
+    )?;
+    show(
+        rt,
+        but(supplied(), |account| account.meter.previous = 100_000),
+        b"previous volume 100000",
+    )
 }
 
 fn estimate_days(rt: &impl Print) -> io::Result<()> {
-    show(rt, with_days(0), b"estimate of 0 days")?;
-    show(rt, with_days(1), b"estimate of 1 day")?;
-    show(rt, with_days(36_495), b"estimate of 36495 days")?;
-    show(rt, with_days(36_496), b"estimate of 36496 days")
+    show(
+        rt,
+        but(supplied(), |account| account.estimates.periods[1].days = 0),
+        b"estimate of 0 days",
+    )?;
+    show(
+        rt,
+        but(supplied(), |account| account.estimates.periods[1].days = 1),
+        b"estimate of 1 day",
+    )?;
+    show(
+        rt,
+        but(
+            supplied(),
+            |account| account.estimates.periods[1].days = 36_495,
+        ),
+        b"estimate of 36495 days",
+    )?;
+    show(
+        rt,
+        but(
+            supplied(),
+            |account| account.estimates.periods[1].days = 36_496,
+        ),
+        b"estimate of 36496 days",
+    )
 }
 
 fn estimate_fuels(rt: &impl Print) -> io::Result<()> {
@@ -94,15 +157,51 @@ fn estimate_fuels(rt: &impl Print) -> io::Result<()> {
 }
 
 fn estimate_amounts(rt: &impl Print) -> io::Result<()> {
-    show(rt, with_volume(99_999), b"estimate of 99999 m3")?;
-    show(rt, with_volume(100_000), b"estimate of 100000 m3")?;
-    show(rt, with_charge(100_000_000), b"estimate charged 100000000")?;
-    show(rt, with_charge(100_000_001), b"estimate charged 100000001")
+    show(
+        rt,
+        but(
+            supplied(),
+            |account| account.estimates.periods[1].volume = 99_999,
+        ),
+        b"estimate of 99999 m3",
+    )?;
+    show(
+        rt,
+        but(
+            supplied(),
+            |account| account.estimates.periods[1].volume = 100_000,
+        ),
+        b"estimate of 100000 m3",
+    )?;
+    show(
+        rt,
+        but(
+            supplied(),
+            |account| account.estimates.periods[1].charged = 100_000_000,
+        ),
+        b"estimate charged 100000000",
+    )?;
+    show(
+        rt,
+        but(
+            supplied(),
+            |account| account.estimates.periods[1].charged = 100_000_001,
+        ),
+        b"estimate charged 100000001",
+    )
 }
 
 fn estimate_counts(rt: &impl Print) -> io::Result<()> {
-    show(rt, many_estimates(6), b"6 estimates")?;
-    show(rt, many_estimates(7), b"7 estimates")?;
+    show(
+        rt,
+        but(supplied(), |account| account.estimates.count = 6),
+        b"6 estimates",
+    )?;
+    show(
+        rt,
+        but(supplied(), |account| account.estimates.count = 7),
+        b"7 estimates",
+    )?;
     show(
         rt,
         counted_estimates(2),
@@ -173,15 +272,20 @@ fn item_counts(rt: &impl Print) -> io::Result<()> {
 }
 
 fn balances(rt: &impl Print) -> io::Result<()> {
-    let period = Status::Supplied { start: 90 };
     show(
         rt,
-        with_held(period, 1_000_000_000_000),
+        but(
+            supplied(),
+            |account| account.ledger.held = 1_000_000_000_000,
+        ),
         b"1000000000000 held",
     )?;
     show(
         rt,
-        with_held(period, 1_000_000_000_001),
+        but(
+            supplied(),
+            |account| account.ledger.held = 1_000_000_000_001,
+        ),
         b"1000000000001 held",
     )?;
     show(rt, with_credit(0, 1), b"credit 1, no item open")?;
@@ -190,18 +294,109 @@ fn balances(rt: &impl Print) -> io::Result<()> {
     show(rt, with_credit(0, 1_000_000_000), b"credit 1000000000")
 }
 
+fn cancelled(held: u64) -> Account {
+    but(supplied(), |account| {
+        account.status = Status::Cancelled;
+        account.ledger.held = held;
+    })
+}
+
+fn with_dial(digits: u8, dial: u32) -> Account {
+    but(supplied(), |account| {
+        account.meter.digits = digits;
+        account.meter.dial = dial;
+    })
+}
+
+fn with_fuel(lng: u32, propane: u32) -> Account {
+    but(
+        supplied(),
+        |account| account.estimates.periods[1].fuel = Fuel { lng, propane },
+    )
+}
+
+// The third place holds an estimate of 0 days.
+fn counted_estimates(count: usize) -> Account {
+    but(supplied(), |account| {
+        account.estimates.count = count;
+        account.estimates.periods[2].days = 0;
+    })
+}
+
+fn with_price(amount: u64, unpaid: u64) -> Account {
+    with_item(Item {
+        amount,
+        unpaid,
+        ..OPEN
+    })
+}
+
+fn with_interest(amount: u64) -> Account {
+    with_item(Item { amount, ..INTEREST })
+}
+
+fn with_item_days(obligation: u16, due: u16) -> Account {
+    with_item(Item {
+        obligation,
+        due,
+        ..OPEN
+    })
+}
+
+// The second item is as given.
+fn with_item(second: Item) -> Account {
+    but(supplied(), |account| account.ledger.items[1] = second)
+}
+
+// The 72nd place holds an item with 0 unpaid.
+fn counted_items(count: usize) -> Account {
+    let mut items = [OPEN; 72];
+    items[71].unpaid = 0;
+    with_ledger(count, items, 0)
+}
+
+fn with_credit(count: usize, credit: u64) -> Account {
+    with_ledger(count, [OPEN; 72], credit)
+}
+
+fn with_ledger(count: usize, items: [Item; 72], credit: u64) -> Account {
+    but(supplied(), |account| {
+        account.ledger = Ledger {
+            count,
+            items,
+            held: 0,
+            credit,
+        };
+    })
+}
+
 // Each call on a whole account that allows it, then on one account that is not whole.
 fn calls(rt: &impl Print) -> io::Result<()> {
     let none = [0u16; 0];
     text(rt, b"a new account\n")?;
     other_calls(rt, Account::new(), &none)?;
     text(rt, b"a stopped account\n")?;
-    other_calls(rt, with_status(Status::Stopped { stop: 90 }), &none)?;
+    other_calls(
+        rt,
+        but(
+            supplied(),
+            |account| account.status = Status::Stopped { stop: 90 },
+        ),
+        &none,
+    )?;
     text(rt, b"a supplied account\n")?;
     supplied_calls(rt, supplied(), &none)?;
     text(rt, b"a supplied account with pool 100000\n")?;
-    supplied_calls(rt, with_pool(100_000), &none)?;
-    other_calls(rt, with_pool(100_000), &none)
+    supplied_calls(
+        rt,
+        but(supplied(), |account| account.meter.pool = 100_000),
+        &none,
+    )?;
+    other_calls(
+        rt,
+        but(supplied(), |account| account.meter.pool = 100_000),
+        &none,
+    )
 }
 
 // 14 comes before 41 and before 1, and leaves the account as it was: what a payment by no list then meets.
@@ -211,8 +406,16 @@ fn lists(rt: &impl Print) -> io::Result<()> {
     supplied_calls(rt, supplied(), &equal)?;
     other_calls(rt, supplied(), &equal)?;
     text(rt, b"two equal days, a supplied account with pool 100000\n")?;
-    supplied_calls(rt, with_pool(100_000), &equal)?;
-    other_calls(rt, with_pool(100_000), &equal)
+    supplied_calls(
+        rt,
+        but(supplied(), |account| account.meter.pool = 100_000),
+        &equal,
+    )?;
+    other_calls(
+        rt,
+        but(supplied(), |account| account.meter.pool = 100_000),
+        &equal,
+    )
 }
 
 fn other_calls(rt: &impl Print, account: Account, holidays: &[u16]) -> io::Result<()> {

@@ -1,5 +1,5 @@
 -- Laws of lines. Assumes nothing.
-use Rattle.common.proofs.Words.{◌≡◌, refl, ap, List, [], ◌∷◌, ◌++◌, ℕ, eqb}
+use Rattle.common.proofs.Words.{◌≡◌, refl, ap, List, [], ◌∷◌, ◌++◌, ℕ, ◌+◌, ◌<◌, add-one, arith, eqb, eq-eqb, ne_eqb, length, get_or, take, take-suc}
 use Rattle.lists.specs.Joined.{joined}
 use Rattle.common.proofs.Cases.{by_test}
 use Rattle.lists.proofs.Joined.{joined_behind}
@@ -7,7 +7,7 @@ use Rattle.account.specs.declared.Account.{Account}
 use Rattle.frames.specs.Digits.{line_feed}
 use Rattle.answers.specs.Answers.{answer_line}
 use Rattle.lines.specs.Line.{line_outcome}
-use Rattle.text.specs.{Lines.lines_from, Output.answers_of, Output.account_after, Pieces.lines_in, Pieces.part_after}
+use Rattle.text.specs.{Lines.lines_from, Lines.ends_in, Output.answers_of, Output.account_after, Pieces.lines_in, Pieces.part_after}
 
 -- Of what came and what is still to come: the lines that ended, then those behind the part that is left.
 pub lines_split : (part came rest : List ℕ) → lines_from part (came ++ rest) ≡ lines_in part came ++ lines_from (part_after part came) rest
@@ -50,3 +50,19 @@ pub account_behind : (holidays : List ℕ) (a : Account) (lines more : List (Lis
 unfolding account_after
 account_behind holidays a [] more = refl
 account_behind holidays a (line ∷ lines) more = account_behind holidays (line_outcome holidays a line).account lines more
+
+-- The line ends of one text behind another, and of one character more.
+pub ends_on : (came more : List ℕ) → ends_in (came ++ more) ≡ ends_in came + ends_in more
+ends_on [] more = omega arith
+ends_on (c ∷ cs) more =
+    by_test (eqb c line_feed) (λ e. rw e (omega (arith, ends_on cs more))) (λ e. rw e (ends_on cs more))
+
+module _ (input : List ℕ) (i : ℕ) (h : i < length input) where
+  next : ends_in (take (i + 1) input) ≡ ends_in (take i input) + ends_in (get_or input i 0 ∷ [])
+  next = rw (add-one i, take-suc input i 0 h) (ends_on (take i input) (get_or input i 0 ∷ []))
+
+  pub ends_here : get_or input i 0 ≡ line_feed → ends_in (take (i + 1) input) ≡ ends_in (take i input) + 1
+  ends_here e = rw (eq-eqb (get_or input i 0) line_feed e) at next
+
+  pub ends_later : (get_or input i 0 ≡ line_feed → ⊥) → ends_in (take (i + 1) input) ≡ ends_in (take i input)
+  ends_later n = omega (arith, rw (ne_eqb (get_or input i 0) line_feed n) at next)

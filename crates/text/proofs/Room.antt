@@ -1,7 +1,8 @@
 -- No answer is longer than the longest, so where there is room for the longest answer to each line, all of an input is taken.
 -- Assumes nothing.
-use Rattle.common.proofs.Words.{◌≡◌, refl, ap, ◌∙◌, true, List, [], ◌∷◌, ℕ, suc, ◌+◌, ◌-◌, ◌*◌, ◌≤◌, ◌<◌, arith, eqb, length, get_or, take}
-use Rattle.common.proofs.Words.{drop, length-append, length-take, drop-cons, eqb-true, eqb-false, eq-eqb, ne_eqb}
+use Rattle.common.proofs.Words.{◌≡◌, refl, ap, ◌∙◌, true, List, [], ◌∷◌, ℕ, suc, ◌+◌, ◌-◌, ◌*◌, ◌≤◌, arith, eqb, length, take}
+use Rattle.common.proofs.Words.{length-append, length-take, eqb-true, eqb-false}
+use Rattle.std.specs.Prelude.{Option, Some, None}
 use Rattle.lists.specs.Pad.{pad}
 use Rattle.common.proofs.Cases.{by_test}
 use Rattle.lists.proofs.{Pad.length_pad, Joined.joined_taken}
@@ -14,7 +15,6 @@ use Rattle.intake.specs.declared.Call.TheVariants.{Opening, Reading, Missed, Abs
 use Rattle.intake.specs.declared.Call.TheVariants.{Payment, StoppedCancellation}
 use Rattle.intake.specs.declared.Call.{Call}
 use Rattle.account.proofs.Ready.{misses_most}
-use Rattle.frames.specs.{declared.Parsed.Parsed, declared.Parsed.TheVariants.Frame, declared.Parsed.TheVariants.NotAFrame}
 use Rattle.frames.specs.{Digits.bytes, Digits.line_feed, Frames.parsed}
 use Rattle.answers.specs.Answers.{volumes_bytes, answer_head, shown, answer_line, longest_answer}
 use Rattle.frames.proofs.Digits.{length_digits}
@@ -69,13 +69,13 @@ call_short holidays a call w =
     (λ e. rw e (line_short (accepted (work holidays a call)).answer (work holidays a call).volumes refl (volumes_few holidays a call w)))
     (λ e. rw e (refusal_short a (refusal holidays a call)))
 
-answer_short : (holidays : List ℕ) (a : Account) (p : Parsed) → Reached holidays a
+answer_short : (holidays : List ℕ) (a : Account) (p : Option Call) → Reached holidays a
     → length (answer_line (parsed_outcome holidays a p).answer) ≤ longest_answer
 answer_short holidays a p r = by_test (list_allowed holidays) (λ e. rw e (read p)) (λ e. rw e (refusal_short a 14))
   where
-    read : (line : Parsed) → length (answer_line (read_outcome holidays a line).answer) ≤ longest_answer
-    read (Frame call) = call_short holidays a call (reached_whole holidays a r)
-    read NotAFrame = refusal_short a 40
+    read : (line : Option Call) → length (answer_line (read_outcome holidays a line).answer) ≤ longest_answer
+    read (Some call) = call_short holidays a call (reached_whole holidays a r)
+    read None = refusal_short a 40
 
 -- All is taken, and room for one more answer is left.
 pub record AllTaken (holidays : List ℕ) (room : ℕ) (s : State) (bytes : List ℕ) : Type 0 where
@@ -104,11 +104,3 @@ all_taken holidays (c ∷ cs) room s r h =
     let rest = all_taken holidays cs room (kept s c) (rw (kept_account s c) r) (rw e at h) in
     let is = feed_keeps holidays room s c cs (eqb-false c line_feed e) in
     record { taken_all = ap (λ (f : Feeding). f.taken) is ∙ ap suc rest.taken_all; left = rw is rest.left })
-
--- The line ends from a place on: one more where a line ends there.
-module _ (input : List ℕ) (i : ℕ) (h : i < length input) where
-  pub ends_here : get_or input i 0 ≡ line_feed → ends_in (drop i input) ≡ suc (ends_in (drop (suc i) input))
-  ends_here e = rw (drop-cons input i 0 h, eq-eqb (get_or input i 0) line_feed e)
-
-  pub ends_later : (get_or input i 0 ≡ line_feed → ⊥) → ends_in (drop i input) ≡ ends_in (drop (suc i) input)
-  ends_later n = rw (drop-cons input i 0 h, ne_eqb (get_or input i 0) line_feed n)

@@ -1,13 +1,12 @@
 -- What the programs write for an input, by a list of closed days.
 use mathlib.Core.{Bool.cond, List.List, List.[], List.◌∷◌}
-use Rattle.std.specs.Prelude.{ℕ, ◌+◌, ◌-◌, ◌^◌}
+use Rattle.std.specs.Prelude.{Option, Some, None, ℕ, ◌+◌, ◌-◌, ◌^◌}
 use lib.{Dec.leb, ListN.length, ListN.take}
 use Rattle.lists.specs.Joined.{joined}
 use Rattle.ledger.specs.declared.Item.{Item}
 use Rattle.account.specs.{declared.Account.Account, declared.Answer.Answer, Calls.new_account}
 use Rattle.intake.specs.declared.Call.{Call}
-use Rattle.frames.specs.{declared.Parsed.Parsed, declared.Parsed.TheVariants.Frame, declared.Parsed.TheVariants.NotAFrame, Digits.written}
-use Rattle.frames.specs.Frames.{parsed}
+use Rattle.frames.specs.{Digits.written, Frames.parsed}
 use Rattle.answers.specs.{Answers.answer_line, Notices.notice_line}
 use Rattle.lines.specs.Line.{line_outcome}
 use Rattle.text.specs.Lines.{lines_of}
@@ -38,9 +37,9 @@ unfoldable pub notice : List ℕ → List ℕ → List ℕ
 notice holidays input = open_notices (account_after holidays new_account (lines_of input))
 
 -- The calls among lines.
-abbrev pub calls_in : Parsed → List Call → List Call
-calls_in (Frame call) calls = call ∷ calls
-calls_in NotAFrame calls = calls
+abbrev pub calls_in : Option Call → List Call → List Call
+calls_in (Some call) calls = call ∷ calls
+calls_in None calls = calls
 
 abbrev pub calls_of : List (List ℕ) → List Call
 calls_of [] = []

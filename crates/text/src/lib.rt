@@ -1,11 +1,10 @@
 // From the bytes of a household's file to the bytes that the programs write.
 #![tactic(auto)]
 
-ghost use Rattle.std.specs.Prelude.{◌≡◌, true, false, cond, ◌+◌, ◌*◌, min, ◌≤◌, ◌<◌, length, take, drop};
+ghost use Rattle.std.specs.Prelude.{◌≡◌, true, false, cond, ◌+◌, ◌*◌, ◌≤◌, length};
 ghost use Rattle.account.specs.Calls.{new_account};
 ghost use Rattle.frames.specs.Digits.{written};
 ghost use Rattle.answers.specs.Answers.{longest_answer};
-ghost use Rattle.ledger.specs.Limits.{capacity};
 ghost use Rattle.answers.specs.Notices.{notice_length};
 ghost use Rattle.text.specs.Output.{account_after, notices_of, open_notices, bill, notice, longest_input, size_of};
 ghost use Rattle.text.specs.Output.{fitted_at, fitted, worked};
@@ -14,7 +13,7 @@ ghost use Rattle.text.specs.Pieces.{Sums};
 
 use account::Account;
 use answers::{LONGEST_ANSWER, NOTICE_LENGTH};
-use ledger::Ledger;
+use ledger::Item;
 use ledger::limits::CAPACITY;
 use lines::State;
 
@@ -48,44 +47,29 @@ pub fn write_bill(input: &[u8], holidays: &[u16], out: &mut [u8]) -> usize
     measured.size
 }
 
-// The line ends in an input.
+// The line ends in an input. Those of a block fit a byte, and so the compiler counts sixteen at a time.
 fn count_ends(input: &[u8]) -> usize
     ensures value { result ≡ ends_in input.now }
     ensures upper_bound { result ≤ length input.now }
 {
-    let mut ends: usize = 0;
-    let mut i: usize = 0;
-    while i < input.len() {
-        let to = block_end(i, input.len());
-        ends += ends_between(input, i, to) as usize;
-        i = to;
+    let mut ends = 0;
+    for block in input.chunks(240) {
+        ends += usize::from(ends_in_block(block));
     }
     ends
 }
 
-// The end of a block of at most 240 bytes that begins at a place.
-fn block_end(from: usize, end: usize) -> usize
-    requires { from < end }
-    ensures { (from < result) × ((result ≤ end) × (result ≤ from + 240)) }
+#[tactic(auto, using(crate::proofs::Lines::ends_here, crate::proofs::Lines::ends_later))]
+fn ends_in_block(block: &[u8]) -> u8
+    requires { length block.now ≤ 240 }
+    ensures value { result ≡ ends_in block.now }
+    ensures upper_bound { result ≤ length block.now }
 {
-    if end - from <= 240 { end } else { from + 240 }
-}
-
-// The line ends of a block. They fit a byte, and so the compiler counts sixteen at a time.
-fn ends_between(input: &[u8], from: usize, to: usize) -> u8
-    requires from_le_to { from ≤ to }
-    requires to_in_bounds { to ≤ length input.now }
-    requires to_bound { to ≤ from + 240 }
-    ensures input_value { result + ends_in (drop to input.now) ≡ ends_in (drop from input.now) }
-    ensures from_bound { result + from ≤ to }
-{
-    let mut ends: u8 = 0;
-    let mut i: usize = from;
-    while i < to {
-        if input[i] == 10 {
+    let mut ends = 0u8;
+    for byte in block {
+        if *byte == b'\n' {
             ends += 1;
         }
-        i += 1;
     }
     ends
 }
@@ -157,19 +141,8 @@ fn work_input(input: &[u8], holidays: &[u16], out: &mut [u8], writing: bool) -> 
 fn put_part(part: &[u8], out: &mut [u8], at: usize, writing: bool)
     ensures { out.new ≡ cond writing (fitted_at out.old at part.now) out.old }
 {
-    if !writing {
-        return;
-    }
-    if out.len() < at {
-        return;
-    }
-    if out.len() - at < part.len() {
-        return;
-    }
-    let mut i: usize = 0;
-    while i < part.len() {
-        out[at + i] = part[i];
-        i += 1;
+    if writing && at <= out.len() && part.len() <= out.len() - at {
+        out[at..at + part.len()].copy_from_slice(part);
     }
 }
 
@@ -179,29 +152,20 @@ pub fn put_notices(account: Account, out: &mut [u8]) -> usize
     ensures out_after { out.new ≡ fitted out.old (open_notices account) }
 {
     let ledger = account.ledger;
-    let size = NOTICE_LENGTH * shown_items(ledger.count);
+    let shown = ledger.count.min(CAPACITY);
+    let size = NOTICE_LENGTH * shown;
     if size <= out.len() {
-        put_items(ledger, out);
+        put_items(&ledger.items[..shown], &mut out[..size]);
     }
     size
 }
 
-fn put_items(ledger: Ledger, out: &mut [u8])
-    requires { notice_length * min ledger.count capacity ≤ length out.old }
-    ensures { out.new ≡ written out.old 0 (notices_of (take ledger.count ledger.items)) }
+fn put_items(items: &[Item], out: &mut [u8])
+    requires { length out.old ≡ notice_length * length items.now }
+    ensures { out.new ≡ notices_of items.now }
 {
-    let items = ledger.items;
-    let shown = shown_items(ledger.count);
-    let mut i: usize = 0;
-    while i < shown {
-        answers::put_notice(items[i], out, NOTICE_LENGTH * i);
-        i += 1;
+    for (i, item) in items.iter().enumerate() {
+        let place = NOTICE_LENGTH * i;
+        answers::put_notice(*item, &mut out[place..place + NOTICE_LENGTH]);
     }
-}
-
-// The items of an array that counts them.
-fn shown_items(count: usize) -> usize
-    ensures { result ≡ min count capacity }
-{
-    if count < CAPACITY { count } else { CAPACITY }
 }

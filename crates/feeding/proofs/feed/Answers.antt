@@ -79,7 +79,6 @@ feed_lines-went-requires c =
       listed = search rules;
       long = c.spread.ensures.long;
       lain = lain (goal.at.feed_lines-went-requires c).After-queue_in;
-      line_long = search rules;
       clear = c.requires.clear;
     }
 

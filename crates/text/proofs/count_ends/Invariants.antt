@@ -1,11 +1,14 @@
--- What was counted, with what is counted from `i` on, is what is counted of all; a block moves both.
-use Rattle.common.proofs.Words.{◌≡◌, ◌+◌, ◌-◌, ◌≤◌, length, drop}
+-- What was counted, with the line ends of the blocks to come, is what is counted of all.
+use Rattle.common.proofs.Words.{◌≡◌, ◌+◌, ◌≤◌, length}
+use Rattle.std.specs.Slice.Iter.{chunks_rest, chunks_size}
 use Rattle.text.specs.Lines.{ends_in}
 use Rattle.text.proofs.count_ends.Given as goal
 
-abbrev pub invariant-loop-i : goal.invariant-loop-i
-invariant-loop-i l =
-    record { within : l.i ≤ length l.input; few : l.ends ≤ l.i; counted : l.ends + ends_in (drop l.i l.input) ≡ ends_in l.input }
-
-abbrev pub decreases-loop-i : goal.decreases-loop-i
-decreases-loop-i l = length l.input - l.i
+abbrev pub invariant-loop-block : goal.invariant-loop-block
+invariant-loop-block l =
+    let rest = chunks_rest l.block-iterator in
+    record {
+      size : chunks_size l.block-iterator ≡ 240;
+      few : l.ends + length rest ≤ length l.input;
+      counted : l.ends + ends_in rest ≡ ends_in l.input;
+    }

@@ -1,17 +1,10 @@
--- Past all places the new estimate is stored behind (`pad_store`), and the array is that of the list with it.
-use Rattle.common.proofs.Words.{◌≡◌, [], ◌∷◌, arith, add-one, length, take, length-append, length-take-le, rules}
+-- The estimates that stand fill the front, the new one is stored behind them (`pad_store`), and the array is that of the list with it.
+use Rattle.common.proofs.Words.{◌≡◌, ◌++◌, [], ◌∷◌, arith, drop, length, take, length-append, length-take-le, replicate, rules}
 use Rattle.lists.specs.Pad.{pad}
-use Rattle.lists.proofs.Pad.{length_of_mapped, pad_next, pad_store}
+use Rattle.lists.proofs.Pad.{length_of_mapped, drop_replicate, pad_store}
 use Rattle.meter.specs.Sharing.{blank}
 use Rattle.intake.specs.Limits.{most_misses}
 use Rattle.account.proofs.calls.with_estimate.Goals as goal
-
-pub loop-i-preserved : goal.loop-i-preserved
-loop-i-preserved c =
-    let places = c.args.estimates.periods in
-    let long : length places ≡ most_misses = search (length_of_mapped, rules) in
-    let next = pad_next blank most_misses places c.loop-i.i blank (omega arith) (omega arith) in
-    (omega arith, rw (c.loop-i.invariant.1, add-one c.loop-i.i) next)
 
 pub returns : goal.returns
 returns c =
@@ -19,8 +12,7 @@ returns c =
     let places = c.args.estimates.periods in
     let front = take n places in
     let long : length places ≡ most_misses = search (length_of_mapped, rules) in
-    let done : c.loop-i.i ≡ n = omega arith in
     let count : length front ≡ n = length-take-le n places (omega arith) in
-    let filled : c.loop-i.periods ≡ pad most_misses blank front = rw (← done) c.loop-i.invariant.1 in
+    let filled : front ++ drop n (replicate most_misses blank) ≡ pad most_misses blank front = rw (drop_replicate blank n most_misses, count) in
     let stored = pad_store blank most_misses n front c.args.estimate count (omega arith) in
-    rw (filled, stored, length-append front (c.args.estimate ∷ []), count)
+    rw (c.copy_from_slice.ensures.after, c.standing.ensures, c.no_estimates.ensures, filled, stored, length-append front (c.args.estimate ∷ []), count)
