@@ -1,2 +1,3 @@
--- Laws of lanes.
-pub mod Rows
+-- Laws of open items.
+pub mod Covered
+pub mod Places

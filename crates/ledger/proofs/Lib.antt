@@ -5,7 +5,6 @@ pub mod Settling
 pub mod Posting
 pub mod Cover
 pub mod Signed
-pub mod Steps
 pub mod Tallies
 pub mod Entries
 pub mod Within
