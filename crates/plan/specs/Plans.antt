@@ -173,3 +173,64 @@ planned h estimates call = planned_as (first_refusal h call) (passed_plan h esti
 
 unfoldable pub planned_volumes : Head → List Estimate → Call → List ℕ
 planned_volumes h estimates call = volumes_as (first_refusal h call) (passed_volumes h estimates call)
+
+-- A call that reads the meter to close a period: it alone looks at the estimates. And a missed reading.
+abbrev pub reads : Call → Bool
+reads (Opening day reading digits) = false
+reads (Reading day reading fuel) = true
+reads (Missed day fuel) = false
+reads (Absent day fuel) = false
+reads (Exchange day old new digits) = false
+reads (Disconnection day reading fuel) = true
+reads (Reconnection day reading digits) = false
+reads (Cancellation day reading fuel) = true
+reads (Payment day yen) = false
+reads (StoppedCancellation day) = false
+
+abbrev pub misses : Call → Bool
+misses (Opening day reading digits) = false
+misses (Reading day reading fuel) = false
+misses (Missed day fuel) = true
+misses (Absent day fuel) = true
+misses (Exchange day old new digits) = false
+misses (Disconnection day reading fuel) = false
+misses (Reconnection day reading digits) = false
+misses (Cancellation day reading fuel) = false
+misses (Payment day yen) = false
+misses (StoppedCancellation day) = false
+
+-- 02, 06 and 08, and 03 and 04, by what they have in common.
+abbrev pub no_reading : ClosingRead
+no_reading = record { day = 0; reading = 0; fuel = record { lng = 0; propane = 0 }; then = Ends }
+
+abbrev pub reading_in : Call → ClosingRead
+reading_in (Opening day reading digits) = no_reading
+reading_in (Reading day reading fuel) = record { day = day; reading = reading; fuel = fuel; then = Goes }
+reading_in (Missed day fuel) = no_reading
+reading_in (Absent day fuel) = no_reading
+reading_in (Exchange day old new digits) = no_reading
+reading_in (Disconnection day reading fuel) = record { day = day; reading = reading; fuel = fuel; then = Stops }
+reading_in (Reconnection day reading digits) = no_reading
+reading_in (Cancellation day reading fuel) = record { day = day; reading = reading; fuel = fuel; then = Ends }
+reading_in (Payment day yen) = no_reading
+reading_in (StoppedCancellation day) = no_reading
+
+pub record Miss : Type 0 where
+  pub day : ℕ
+  pub fuel : Fuel
+  pub absent : Bool
+
+abbrev pub no_miss : Miss
+no_miss = record { day = 0; fuel = record { lng = 0; propane = 0 }; absent = true }
+
+abbrev pub miss_in : Call → Miss
+miss_in (Opening day reading digits) = no_miss
+miss_in (Reading day reading fuel) = no_miss
+miss_in (Missed day fuel) = record { day = day; fuel = fuel; absent = false }
+miss_in (Absent day fuel) = record { day = day; fuel = fuel; absent = true }
+miss_in (Exchange day old new digits) = no_miss
+miss_in (Disconnection day reading fuel) = no_miss
+miss_in (Reconnection day reading digits) = no_miss
+miss_in (Cancellation day reading fuel) = no_miss
+miss_in (Payment day yen) = no_miss
+miss_in (StoppedCancellation day) = no_miss
