@@ -1,6 +1,8 @@
 // Accounts to hand in: whole ones, and ones with a field made wrong; and the line that says how one is answered.
 #![tactic(auto)]
 
+ghost use Rattle.std.specs.Fn.{FnOnceReturnsAtMut};
+
 use account::{Account, Outcome};
 use intake::Status;
 use ledger::{Item, Kind, Ledger};
@@ -74,6 +76,7 @@ pub fn text(rt: &impl Print, line: &[u8]) -> io::Result<()> {
 // An account, changed.
 pub fn but<F: FnOnce(&mut Account)>(account: Account, change: F) -> Account
     requires { F.IsAlwaysCallable change }
+    ensures { FnOnceReturnsAtMut F.FnOnce change account tt result }
 {
     let mut account = account;
     change(&mut account);
