@@ -1,6 +1,7 @@
 -- What a call hands back: the account and the answer.
 use mathlib.Core.{Bool.cond, List.List, List.[]}
-use Rattle.std.specs.Prelude.{ℕ}
+use Rattle.std.specs.Prelude.{◌≡◌, ℕ, Result, IfOk}
+use Rattle.common.specs.{declared.Refusal.Refusal, Refusals.told}
 use lib.{Dec.eqb, IntN.ℤ, IntN.pos}
 use Rattle.meter.specs.Sharing.{volumes_of}
 use Rattle.ledger.specs.{Settling.unpaid_of, Posting.standing}
@@ -47,3 +48,12 @@ outcome holidays a call =
 abbrev pub concluded : Account → Work → Outcome
 concluded a w =
     cond (eqb (last_refusal w.account.ledger) 0) (accepted w) (declined a (last_refusal w.account.ledger))
+
+-- What an accepted call comes to, and else the number by which it is declined.
+pub record OutcomeAs (number : ℕ) (w : Work) (r : Result Outcome Refusal) : Type 0 where
+  pub tells : told r ≡ number
+  pub accepts : IfOk r (λ o. o ≡ accepted w)
+
+-- The same of a call that 14, 41 and 1 to 11 let pass.
+abbrev pub Concluded : Work → Result Outcome Refusal → Type 0
+Concluded w = OutcomeAs (last_refusal w.account.ledger) w

@@ -11,15 +11,16 @@ ghost use Rattle.account.specs.Outcomes.{outcome};
 pub mod calls;
 mod whole;
 
-use crate::calls::{decline, no_estimates};
+use crate::calls::decline;
 use crate::whole::is_whole;
-use duedays::is_list_allowed;
+use common::Refusal;
+use duedays::Holidays;
 use intake::{Call, Status};
 use ledger::Ledger;
 use meter::{Estimates, Meter, Volumes};
 use tariff::Fuel;
 
-#[derive(Clone, Copy)]
+#[derive(Clone, Copy, PartialEq, Eq, Debug)]
 pub struct Account {
     pub status: Status,
     // Day of the latest accepted call.
@@ -30,7 +31,7 @@ pub struct Account {
 }
 
 // `number` is 0 where the call was accepted; where it was declined it says why, and every other field is 0.
-#[derive(Clone, Copy)]
+#[derive(Clone, Copy, PartialEq, Eq, Debug, Default)]
 pub struct Answer {
     pub number: u8,
     pub estimated: u32,
@@ -41,7 +42,7 @@ pub struct Answer {
     pub credit: u64,
 }
 
-#[derive(Clone, Copy)]
+#[derive(Clone, Copy, PartialEq, Eq, Debug)]
 pub struct Outcome {
     pub account: Account,
     pub answer: Answer,
@@ -51,18 +52,12 @@ impl Account {
     pub fn new() -> Account
         ensures { result ≡ new_account }
     {
-        let ledger = Ledger::new();
         Account {
             status: Status::New,
             latest: 0,
-            meter: Meter {
-                digits: 0,
-                dial: 0,
-                pool: 0,
-                previous: 0,
-            },
-            estimates: no_estimates(),
-            ledger,
+            meter: Meter::default(),
+            estimates: Estimates::default(),
+            ledger: Ledger::new(),
         }
     }
 
@@ -169,11 +164,11 @@ impl Account {
     pub fn apply(mut self, holidays: &[u16], call: Call) -> Outcome
         ensures { result ≡ outcome holidays.now self call }
     {
-        if !is_list_allowed(holidays) {
-            return decline(self, 14);
-        }
+        let Some(holidays) = Holidays::of(holidays) else {
+            return decline(self, Refusal::ClosedDays);
+        };
         if !is_whole(self) {
-            return decline(self, 41);
+            return decline(self, Refusal::NotWhole);
         }
         calls::answer(self, holidays, call)
     }

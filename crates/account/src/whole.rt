@@ -1,12 +1,11 @@
 // Number 41: whether an account handed in is whole. One walk over the open items and the standing estimates, and of a new account
 // over all places.
-ghost use Rattle.std.specs.Prelude.{◌≡◌, cond, ◌≤◌};
+ghost use Rattle.std.specs.Prelude.{◌≡◌, cond};
 ghost use Rattle.lists.specs.Every.{every, same};
-ghost use Rattle.meter.specs.Sharing.{AtMostSix};
 ghost use Rattle.meter.specs.Sharing as Sharing;
 ghost use Rattle.ledger.specs.Interest.{is_price};
-ghost use Rattle.ledger.specs.Posting.{blank, standing};
-ghost use Rattle.ledger.specs.Limits.{capacity, most_price, most_interest};
+ghost use Rattle.ledger.specs.Posting.{blank};
+ghost use Rattle.ledger.specs.Limits.{most_price, most_interest};
 ghost use Rattle.account.specs.Calls.{new_account};
 ghost use Rattle.account.specs.Whole.{same_estimate, same_item, made_meter, made_estimates, made_ledger, as_made};
 ghost use Rattle.account.specs.Whole.{whole_estimate, whole_item, whole_ledger, whole_meter, whole_parts, whole};
@@ -28,7 +27,7 @@ pub fn is_whole(account: Account) -> bool
     match status {
         Status::New => as_made(account),
         Status::Supplied { start } => {
-            (start as u32 <= account.latest as u32 + 1) & whole_parts(account)
+            (u32::from(start) <= u32::from(account.latest) + 1) & whole_parts(account)
         }
         Status::Stopped { stop } => (stop <= account.latest) & whole_parts(account),
         Status::Cancelled => (account.ledger.held == 0) & whole_parts(account),
@@ -122,6 +121,7 @@ fn is_price(kind: Kind) -> bool
     }
 }
 
+#[tactic(auto, unfolding(crate::specs::Whole::whole_parts))]
 fn whole_parts(account: Account) -> bool
     ensures { result ≡ whole_parts account }
 {
@@ -142,29 +142,25 @@ fn whole_meter(account: Account) -> bool
         & on_dial(meter.digits, meter.dial)
         & (meter.pool <= MOST_VOLUME)
         & (meter.previous <= MOST_VOLUME)
-        & whole_estimates(account.estimates)
+        & whole_estimates(account.estimates.standing())
 }
 
-fn whole_estimates(estimates: Estimates) -> bool
-    requires { AtMostSix estimates }
-    ensures { result ≡ every whole_estimate (Sharing.standing estimates) }
+#[tactic(auto, using(lists::proofs::Every::every_suc))]
+fn whole_estimates(estimates: &[Estimate]) -> bool
+    ensures { result ≡ every whole_estimate estimates.now }
 {
-    let count = estimates.count;
     let mut whole = true;
-    let mut i: usize = 0;
-    while i < count {
-        let estimate = estimates.periods[i];
-        whole = whole & whole_estimate(estimate);
-        i += 1;
+    for estimate in estimates {
+        whole = whole & whole_estimate(*estimate);
     }
     whole
 }
 
+#[tactic(auto, unfolding(crate::specs::Whole::whole_estimate))]
 fn whole_estimate(estimate: Estimate) -> bool
     ensures { result ≡ whole_estimate estimate }
 {
-    (1 <= estimate.days)
-        & (estimate.days <= MOST_DAYS)
+    (1..=MOST_DAYS).contains(&estimate.days)
         & fuel_allowed(estimate.fuel)
         & (estimate.volume <= MOST_VOLUME)
         & (estimate.charged <= MOST_CHARGE)
@@ -176,34 +172,29 @@ fn whole_ledger(latest: u16, ledger: Ledger) -> bool
     if ledger.count > CAPACITY {
         return false;
     }
-    whole_items(latest, ledger)
+    whole_items(latest, &ledger.items[..ledger.count])
         & (ledger.held <= MOST_INTEREST)
         & (ledger.credit <= MOST_CREDIT)
         & ((ledger.credit == 0) | (ledger.count == 0))
 }
 
-fn whole_items(latest: u16, ledger: Ledger) -> bool
-    requires { ledger.count ≤ capacity }
-    ensures { result ≡ every (whole_item latest) (standing ledger).open_items }
+#[tactic(auto, using(lists::proofs::Every::every_suc))]
+fn whole_items(latest: u16, items: &[Item]) -> bool
+    ensures { result ≡ every (whole_item latest) items.now }
 {
-    let count = ledger.count;
     let mut whole = true;
-    let mut i: usize = 0;
-    while i < count {
-        let item = ledger.items[i];
-        whole = whole & whole_item(latest, item);
-        i += 1;
+    for item in items {
+        whole = whole & whole_item(latest, *item);
     }
     whole
 }
 
+#[tactic(auto, unfolding(crate::specs::Whole::whole_item))]
 fn whole_item(latest: u16, item: Item) -> bool
     ensures { result ≡ whole_item latest item }
 {
-    let kind = item.kind;
-    (1 <= item.unpaid)
-        & (item.unpaid <= item.amount)
-        & (item.amount <= amount_limit(kind))
+    (1..=item.amount).contains(&item.unpaid)
+        & (item.amount <= amount_limit(item.kind))
         & (item.obligation <= latest)
         & (item.due <= LAST_DUE_DAY)
 }
@@ -211,9 +202,8 @@ fn whole_item(latest: u16, item: Item) -> bool
 fn amount_limit(kind: Kind) -> u64
     ensures { result ≡ cond (is_price kind) most_price most_interest }
 {
-    if is_price(kind) {
-        MOST_PRICE
-    } else {
-        MOST_INTEREST
+    match kind {
+        Kind::Price => MOST_PRICE,
+        Kind::Interest => MOST_INTEREST,
     }
 }

@@ -1,6 +1,7 @@
 -- Lists of closed days by their places. Assumes nothing.
 use Rattle.common.proofs.Words.{◌≡◌, refl, sym, true, false, ◌&&◌, and-true, or-true, List, [], ◌∷◌, ℕ, zero, suc, ◌+◌, ◌≤◌, ◌<◌}
-use Rattle.common.proofs.Words.{le_of_suc-le-suc, not-suc-le-zero}
+use Rattle.common.proofs.Words.{le_of_lt, le_of_suc-le-suc, not-suc-le-zero}
+use Rattle.common.proofs.Words.{◌∙◌, drop, get_or-take, get_or-drop}
 use Rattle.common.proofs.Words.{arith, length, get_or, take, leb, eq-eqb, ne_eqb, ltb, leb-true, ltb-true}
 use Rattle.common.proofs.Tests.{and_left, and_right}
 use Rattle.lists.specs.Every.{every}
@@ -62,12 +63,20 @@ allowed {holidays} e =
       in_order = λ i j l h. rises holidays i j l h (and_right (few && days) (rising holidays) e);
     }
 
+-- A later place holds no earlier day.
+pub not_falling : {holidays : List ℕ} → Allowed holidays → (i j : ℕ) → i ≤ j → j < length holidays → get_or holidays i 0 ≤ get_or holidays j 0
+not_falling {holidays} w i j l h =
+    by_order i j (λ below. le_of_lt (w.in_order i j below h)) (λ same. let is : i ≡ j = omega arith in rw is (omega arith))
+
+-- A place behind another, in a part of the list from there on.
+pub behind_place : (holidays : List ℕ) (at n i : ℕ) → i < n → get_or (take n (drop at holidays)) i 0 ≡ get_or holidays (at + i) 0
+behind_place holidays at n i h = get_or-take n (drop at holidays) i 0 h ∙ get_or-drop at holidays i 0
+
 -- A day's place: on to the next day where it is listed there, and else it isn't listed.
 module _ {holidays : List ℕ} (w : Allowed holidays) {day at : ℕ} (from : FirstFrom holidays day at) where
   pub from_next : at < length holidays → get_or holidays at 0 ≡ day → FirstFrom holidays (day + 1) (at + 1)
   from_next h e =
       record {
-        in_order = omega arith;
         within = omega arith;
         before = λ i l.
             by_order i at (λ below. omega (arith, from.before i below))

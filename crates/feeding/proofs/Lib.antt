@@ -1,5 +1,4 @@
 -- Laws of lines worked.
 pub mod Reached
-pub mod Planning
 pub mod Entering
 pub mod Running

@@ -50,10 +50,6 @@ called_in kind w line =
 pub record Row (kind : FrameKind) (w : Widths) : Type 0 where
   pub digit : is_digit (character_of kind) ≡ true
   pub value : value_of (character_of kind) ≡ number_of_kind kind
-  pub first_most : w.first ≤ 8
-  pub second_most : w.second ≤ 8
-  pub third_most : w.third ≤ 8
-  pub short_most : w.short ≤ 2
   pub end_most : end_of w ≤ longest_frame
   pub told : (size : ℕ) (line : List ℕ)
       → framed layout size (number_of_kind kind) line ≡ cond (eqb size (end_of w)) (Some (called_in kind w line)) None

@@ -1,13 +1,13 @@
 -- What a call that numbers 1 to 11 let pass has passed. Assumes nothing.
-use Rattle.common.proofs.Words.{◌≡◌, refl, sym, ap, ◌∙◌, Bool, true, false, not, cond, ℕ, suc, ◌+◌, ◌≤◌, ◌<◌, suc-ne-zero, leb, eqb}
+use Rattle.common.proofs.Words.{◌≡◌, refl, Bool, true, false, not, cond, ℕ, suc, ◌+◌, ◌≤◌, ◌<◌, suc-ne-zero, leb, eqb}
 use Rattle.common.proofs.Words.{leb-true, ltb-true}
 use Rattle.tariff.specs.declared.Fuel.{Fuel}
-use Rattle.meter.specs.Dial.{span, advance, within_half, Digits, OnDial}
+use Rattle.meter.specs.Dial.{span, advance, within_half, Digits}
 use Rattle.meter.specs.{declared.Meter.Meter, Metering.pool_to}
 use Rattle.ledger.specs.Limits.{last_call_day}
-use Rattle.intake.specs.Limits.{most_volume, most_misses, most_payment, day_allowed, on_dial, fuel_allowed}
-use Rattle.intake.specs.Refusals.{unless, begins, advances, reading_refusal, miss_refusal, dial_refusal, exchange_refusal, payment_refusal}
-use Rattle.intake.specs.{declared.Head.Head, Heads.MeterBounds, Heads.HeadBounds}
+use Rattle.intake.specs.Limits.{most_volume, most_misses, most_payment, day_allowed, fuel_allowed}
+use Rattle.intake.specs.Refusals.{unless, begins, some_day, closes, advances, reading_refusal, miss_refusal, dial_refusal, exchange_refusal, payment_refusal}
+use Rattle.intake.specs.{declared.Head.Head}
 use Rattle.intake.specs.{Statuses.is_new, Statuses.is_supplied, Statuses.start_of, Periods.days_of}
 use Rattle.common.proofs.Tests.{and_both, within_true}
 
@@ -29,7 +29,7 @@ begun allowed latest day others e =
     let three = passes _ two.1 in
     record { status_allows = one.0; day_most = leb-true _ _ two.0; not_before = leb-true _ _ three.0; then_passed = three.1 }
 
--- The others are looked at where numbers 1 to 3 let the call pass.
+-- The others are looked at where numbers 1 to 3, or 6 and 7, let the call pass.
 pub begins_then : (allowed : Bool) (latest day others : ℕ)
     → begins allowed latest day others ≡ cond (eqb (begins allowed latest day 0) 0) others (begins allowed latest day 0)
 begins_then allowed latest day others = go allowed (day_allowed day) (leb latest day)
@@ -41,26 +41,15 @@ begins_then allowed latest day others = go allowed (day_allowed day) (leb latest
     go true true false = refl
     go true true true = refl
 
--- What a call of `start_refusal` answers, where another call answers whether the status allows it.
-pub record Started (allowed : Bool) (latest day : ℕ) : Type 0 where
-  pub none : begins allowed latest day 0 ≡ 0
-
-pub start_passed : {answer allowed : Bool} {latest day n : ℕ} → answer ≡ allowed → n ≡ begins answer latest day 0 → n ≡ 0
-    → Started allowed latest day
-start_passed {latest} {day} is number z = record { none = ap (λ b. begins b latest day 0) (sym is) ∙ sym number ∙ z }
-
-pub goes_on : {allowed : Bool} {latest day : ℕ} → Started allowed latest day → (others : ℕ) → begins allowed latest day others ≡ others
-goes_on {allowed} {latest} {day} w others = rw (begins_then allowed latest day others, w.none)
-
--- What is known of a supplied account's meter, and of a reading that is on its dial.
-module _ {h : Head} {day : ℕ} (w : HeadBounds h) (s : Started (is_supplied h.status) h.latest day) where
-  pub meter_known : MeterBounds h.meter
-  meter_known = (w.supplied (passes _ s.none).0).meter
-
-  pub advance_known : {reading : ℕ} → on_dial h.meter.digits reading ≡ true
-      → OnDial h.meter.digits h.meter.dial reading × (h.meter.pool ≤ most_volume)
-  advance_known on = let m = meter_known in
-      (record { digits_within = m.digits_within; old_within = m.dial_within; new_within = ltb-true _ _ on }, m.pool_most)
+pub closes_then : (h : Head) (day : ℕ) (fuel : Fuel) (others : ℕ)
+    → closes h day fuel others ≡ cond (eqb (closes h day fuel 0) 0) others (closes h day fuel 0)
+closes_then h day fuel others = go (fuel_allowed fuel) (some_day h day)
+  where
+    go : (six seven : Bool) → let chain : ℕ → ℕ = λ rest. unless six 6 (unless seven 7 rest) in
+        chain others ≡ cond (eqb (chain 0) 0) others (chain 0)
+    go false seven = refl
+    go true false = refl
+    go true true = refl
 
 pool_passed : (m : Meter) (reading : ℕ) → advances m reading ≡ 0 → pool_to m reading ≤ most_volume
 pool_passed m reading e =

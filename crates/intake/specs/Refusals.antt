@@ -25,17 +25,21 @@ advances m reading =
 abbrev pub some_day : Head → ℕ → Bool
 some_day h day = ltb 0 (days_of (start_of h.status) day)
 
+-- 6 and 7, in all calls that close a period: its fuel prices, and its days.
+abbrev pub closes : Head → ℕ → Fuel → ℕ → ℕ
+closes h day fuel others = unless (fuel_allowed fuel) 6 (unless (some_day h day) 7 others)
+
 -- 02, 06 and 08: a reading closes the period.
 abbrev pub reading_refusal : Head → ℕ → ℕ → Fuel → ℕ
 reading_refusal h day reading fuel =
     begins (is_supplied h.status) h.latest day
-    (unless (on_dial h.meter.digits reading) 5 (unless (fuel_allowed fuel) 6 (unless (some_day h day) 7 (advances h.meter reading))))
+    (unless (on_dial h.meter.digits reading) 5 (closes h day fuel (advances h.meter reading)))
 
 -- 03 and 04: a missed reading.
 abbrev pub miss_refusal : Head → ℕ → Fuel → ℕ
 miss_refusal h day fuel =
     begins (is_supplied h.status) h.latest day
-    (unless (fuel_allowed fuel) 6 (unless (some_day h day) 7 (unless (misses_allowed (h.standing + 1)) 8 0)))
+    (closes h day fuel (unless (misses_allowed (h.standing + 1)) 8 0))
 
 -- 01 and 07: supply begins at a dial.
 abbrev pub dial_refusal : Bool → Head → ℕ → ℕ → ℕ → ℕ

@@ -10,7 +10,7 @@ use meter::Meter;
 use tariff::Fuel;
 
 // `start` is the first day of the period that runs, `stop` the day of the stop.
-#[derive(Clone, Copy)]
+#[derive(Clone, Copy, PartialEq, Eq, Debug)]
 pub enum Status {
     New,
     Supplied { start: u16 },
@@ -18,7 +18,7 @@ pub enum Status {
     Cancelled,
 }
 
-#[derive(Clone, Copy)]
+#[derive(Clone, Copy, PartialEq, Eq, Debug)]
 pub enum Call {
     // 01: opening
     Opening {
@@ -79,7 +79,7 @@ pub enum Call {
 }
 
 // The numbers of an account without its estimates and its ledger. `latest` is the day of the latest accepted call, `standing` how many estimates stand.
-#[derive(Clone, Copy)]
+#[derive(Clone, Copy, PartialEq, Eq, Debug)]
 pub struct Head {
     pub status: Status,
     pub latest: u16,

@@ -21,7 +21,7 @@ const MOST_PAYMENT: u32 = 99_999_999;
 pub fn digits_allowed(digits: u8) -> bool
     ensures { result ≡ digits_allowed digits }
 {
-    4 <= digits && digits <= 5
+    (4..=5).contains(&digits)
 }
 
 pub fn on_dial(digits: u8, reading: u32) -> bool
@@ -46,5 +46,5 @@ fn price_allowed(price: u32) -> bool
 pub fn payment_allowed(yen: u32) -> bool
     ensures { result ≡ payment_allowed yen }
 {
-    1 <= yen && yen <= MOST_PAYMENT
+    (1..=MOST_PAYMENT).contains(&yen)
 }

@@ -1,146 +1,137 @@
-// When a call is declined for what the head and the call show: numbers 1 to 11, in document 01's order. 0 stands for none.
+// When a call is declined for what the head and the call show: numbers 1 to 11, in document 01's order.
 ghost use Rattle.std.specs.Prelude.{◌≡◌, ◌≤◌};
+ghost use Rattle.common.specs.Refusals.{told};
 ghost use Rattle.meter.specs.Dial.{OnDial};
 ghost use Rattle.intake.specs.Limits.{most_volume};
-ghost use Rattle.intake.specs.Refusals.{begins, advances, reading_refusal, miss_refusal, dial_refusal, exchange_refusal, payment_refusal};
+ghost use Rattle.intake.specs.Refusals.{begins, closes, advances, reading_refusal, miss_refusal, dial_refusal, exchange_refusal, payment_refusal};
 ghost use Rattle.intake.specs.Heads.{HeadBounds};
 
 use crate::Head;
 use crate::limits::{
     MOST_MISSES, MOST_VOLUME, digits_allowed, fuel_allowed, on_dial, payment_allowed,
 };
-use crate::statuses::{is_new, is_supplied, start_of};
+use crate::statuses::start_of;
+use common::Refusal;
 use duedays::limits::LAST_CALL_DAY;
 use meter::{Meter, dial_advance, within_half};
 use tariff::Fuel;
 
 // 02, 06 and 08: a reading closes the period
-pub fn reading_refusal(head: Head, day: u16, reading: u32, fuel: Fuel) -> u8
+pub fn allow_reading(head: Head, day: u16, reading: u32, fuel: Fuel) -> Result<(), Refusal>
     requires { HeadBounds head }
-    ensures { result ≡ reading_refusal head day reading fuel }
+    ensures { told result ≡ reading_refusal head day reading fuel }
 {
-    let status = head.status;
     let meter = head.meter;
-    let number = start_refusal(is_supplied(status), head.latest, day);
-    if number != 0 {
-        return number;
-    }
+    allow_start(head.status.is_supplied(), head.latest, day)?;
     if !on_dial(meter.digits, reading) {
-        return 5;
+        return Err(Refusal::OffDial);
     }
-    if !fuel_allowed(fuel) {
-        return 6;
-    }
-    if day < start_of(status) {
-        return 7;
-    }
-    advance_refusal(meter, reading)
+    allow_closing(head, day, fuel)?;
+    allow_advance(meter, reading)
 }
 
 // 03 and 04: a missed reading
-pub fn miss_refusal(head: Head, day: u16, fuel: Fuel) -> u8
-    ensures { result ≡ miss_refusal head day fuel }
+#[tactic(auto, using(crate::proofs::Passed::begins_then, crate::proofs::Passed::closes_then))]
+pub fn allow_miss(head: Head, day: u16, fuel: Fuel) -> Result<(), Refusal>
+    ensures { told result ≡ miss_refusal head day fuel }
 {
-    let status = head.status;
-    let number = start_refusal(is_supplied(status), head.latest, day);
-    if number != 0 {
-        return number;
-    }
-    if !fuel_allowed(fuel) {
-        return 6;
-    }
-    if day < start_of(status) {
-        return 7;
-    }
+    allow_start(head.status.is_supplied(), head.latest, day)?;
+    allow_closing(head, day, fuel)?;
     if head.standing >= MOST_MISSES {
-        return 8;
+        return Err(Refusal::SeventhMiss);
     }
-    0
+    Ok(())
 }
 
 // 01 and 07: supply begins at a dial
-pub fn dial_refusal(allowed: bool, head: Head, day: u16, reading: u32, digits: u8) -> u8
-    ensures { result ≡ dial_refusal allowed head day reading digits }
+pub fn allow_dial(
+    allowed: bool,
+    head: Head,
+    day: u16,
+    reading: u32,
+    digits: u8,
+) -> Result<(), Refusal>
+    ensures { told result ≡ dial_refusal allowed head day reading digits }
 {
-    let number = start_refusal(allowed, head.latest, day);
-    if number != 0 {
-        return number;
-    }
+    allow_start(allowed, head.latest, day)?;
     if !digits_allowed(digits) {
-        return 4;
+        return Err(Refusal::Digits);
     }
     if !on_dial(digits, reading) {
-        return 5;
+        return Err(Refusal::OffDial);
     }
-    0
+    Ok(())
 }
 
 // 05: meter change
-pub fn exchange_refusal(head: Head, day: u16, old: u32, new: u32, digits: u8) -> u8
+pub fn allow_exchange(head: Head, day: u16, old: u32, new: u32, digits: u8) -> Result<(), Refusal>
     requires { HeadBounds head }
-    ensures { result ≡ exchange_refusal head day old new digits }
+    ensures { told result ≡ exchange_refusal head day old new digits }
 {
-    let status = head.status;
     let meter = head.meter;
-    let number = start_refusal(is_supplied(status), head.latest, day);
-    if number != 0 {
-        return number;
-    }
+    allow_start(head.status.is_supplied(), head.latest, day)?;
     if !digits_allowed(digits) {
-        return 4;
+        return Err(Refusal::Digits);
     }
-    if !on_dial(meter.digits, old) {
-        return 5;
+    if !on_dial(meter.digits, old) || !on_dial(digits, new) {
+        return Err(Refusal::OffDial);
     }
-    if !on_dial(digits, new) {
-        return 5;
-    }
-    advance_refusal(meter, old)
+    allow_advance(meter, old)
 }
 
 // 09: payment
-pub fn payment_refusal(head: Head, day: u16, yen: u32) -> u8
-    ensures { result ≡ payment_refusal head day yen }
+pub fn allow_payment(head: Head, day: u16, yen: u32) -> Result<(), Refusal>
+    ensures { told result ≡ payment_refusal head day yen }
 {
-    let status = head.status;
-    let number = start_refusal(!is_new(status), head.latest, day);
-    if number != 0 {
-        return number;
-    }
+    allow_start(!head.status.is_new(), head.latest, day)?;
     if !payment_allowed(yen) {
-        return 11;
+        return Err(Refusal::Payment);
     }
-    0
+    Ok(())
 }
 
 // 1 to 3, first in all calls
-pub fn start_refusal(allowed: bool, latest: u16, day: u16) -> u8
-    ensures { result ≡ begins allowed latest day 0 }
+pub fn allow_start(allowed: bool, latest: u16, day: u16) -> Result<(), Refusal>
+    ensures { told result ≡ begins allowed latest day 0 }
 {
     if !allowed {
-        return 1;
+        return Err(Refusal::Status);
     }
     if day > LAST_CALL_DAY {
-        return 2;
+        return Err(Refusal::LateDay);
     }
     if day < latest {
-        return 3;
+        return Err(Refusal::EarlyDay);
     }
-    0
+    Ok(())
+}
+
+// 6 and 7
+fn allow_closing(head: Head, day: u16, fuel: Fuel) -> Result<(), Refusal>
+    ensures { told result ≡ closes head day fuel 0 }
+{
+    if !fuel_allowed(fuel) {
+        return Err(Refusal::FuelPrice);
+    }
+    if day < start_of(head.status) {
+        return Err(Refusal::NoDays);
+    }
+    Ok(())
 }
 
 // 9 and 10
-fn advance_refusal(meter: Meter, reading: u32) -> u8
+#[tactic(auto, using(meter::proofs::Dial::advance_within, meter::proofs::Dial::span_most))]
+fn allow_advance(meter: Meter, reading: u32) -> Result<(), Refusal>
     requires on_dial { OnDial meter.digits meter.dial reading }
     requires pool_le_most_volume { meter.pool ≤ most_volume }
-    ensures { result ≡ advances meter reading }
+    ensures { told result ≡ advances meter reading }
 {
     let advance = dial_advance(meter.digits, meter.dial, reading);
     if !within_half(meter.digits, advance) {
-        return 9;
+        return Err(Refusal::AboveHalfSpan);
     }
     if meter.pool + advance > MOST_VOLUME {
-        return 10;
+        return Err(Refusal::LargePool);
     }
-    0
+    Ok(())
 }

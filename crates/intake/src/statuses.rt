@@ -4,69 +4,50 @@ ghost use Rattle.intake.specs.Statuses.{is_new, is_supplied, is_stopped, is_canc
 
 use crate::Status;
 
-pub fn is_new(status: Status) -> bool
-    ensures { result ≡ is_new status }
-{
-    match status {
-        Status::New => true,
-        Status::Supplied { start: _ } => false,
-        Status::Stopped { stop: _ } => false,
-        Status::Cancelled => false,
+impl Status {
+    pub fn is_new(self) -> bool
+        ensures { result ≡ is_new self }
+    {
+        matches!(self, Status::New)
+    }
+
+    pub fn is_supplied(self) -> bool
+        ensures { result ≡ is_supplied self }
+    {
+        matches!(self, Status::Supplied { .. })
+    }
+
+    pub fn is_stopped(self) -> bool
+        ensures { result ≡ is_stopped self }
+    {
+        matches!(self, Status::Stopped { .. })
+    }
+
+    pub fn is_cancelled(self) -> bool
+        ensures { result ≡ is_cancelled self }
+    {
+        matches!(self, Status::Cancelled)
     }
 }
 
-pub fn is_supplied(status: Status) -> bool
-    ensures { result ≡ is_supplied status }
-{
-    match status {
-        Status::New => false,
-        Status::Supplied { start: _ } => true,
-        Status::Stopped { stop: _ } => false,
-        Status::Cancelled => false,
-    }
-}
-
-pub fn is_stopped(status: Status) -> bool
-    ensures { result ≡ is_stopped status }
-{
-    match status {
-        Status::New => false,
-        Status::Supplied { start: _ } => false,
-        Status::Stopped { stop: _ } => true,
-        Status::Cancelled => false,
-    }
-}
-
-pub fn is_cancelled(status: Status) -> bool
-    ensures { result ≡ is_cancelled status }
-{
-    match status {
-        Status::New => false,
-        Status::Supplied { start: _ } => false,
-        Status::Stopped { stop: _ } => false,
-        Status::Cancelled => true,
-    }
-}
-
-// The first day of the period that runs.
+// The first day of the period that runs. 0 where none runs.
 pub fn start_of(status: Status) -> u16
     ensures { result ≡ start_of status }
 {
-    match status {
-        Status::New => 0,
-        Status::Supplied { start } => start,
-        Status::Stopped { stop: _ } => 0,
-        Status::Cancelled => 0,
+    if let Status::Supplied { start } = status {
+        start
+    } else {
+        0
     }
 }
 
+// The day of the stop. 0 where there is none.
 pub fn stop_of(status: Status) -> u16
     ensures { result ≡ stop_of status }
 {
-    match status {
-        Status::New => 0,
-        Status::Supplied { start: _ } => 0,
-        Status::Stopped { stop } => stop,
-        Status::Cancelled => 0,
+    if let Status::Stopped { stop } = status {
+        stop
+    } else {
+        0
     }
 }

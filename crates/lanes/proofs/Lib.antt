@@ -1,2 +1,4 @@
--- Laws of lanes.
-pub mod Rows
+-- Laws of open items.
+pub mod Covered
+pub mod Places
+pub mod Labels

@@ -1,2 +1,2 @@
--- Items in lanes.
-pub mod Lanes
+-- The open items of a ledger among the places of an array.
+pub mod OpenItems

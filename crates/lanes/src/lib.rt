@@ -1,158 +1,137 @@
-// The items of a queue in three lanes of numbers, and an entry worked where they lie: specs/Lanes.
+// The open items of a ledger while entries are worked: specs/OpenItems.
 #![tactic(auto)]
 
-ghost use Rattle.std.specs.Prelude.{◌≡◌, ◌++◌, ℕ, ◌+◌, ◌≤◌, ◌<◌, get_or, set, take, drop};
+ghost use Rattle.std.specs.Prelude.{◌≡◌, ◌++◌, ℕ, ◌+◌, ◌-◌, ◌≤◌, ◌<◌, length, IfOk};
+ghost use Rattle.common.specs.Refusals.{told};
 ghost use Rattle.lists.specs.Pad.{pad};
 ghost use Rattle.ledger.specs.Limits.{capacity, lane_places};
-ghost use Rattle.ledger.specs.Posting.{standing, coverage, blank};
-ghost use Rattle.ledger.specs.Entries.{Enterable, Within, Answered};
-ghost use Rattle.ledger.specs.Numbers.{places, posted};
-ghost use Rattle.lanes.specs.Lanes.{kind_label, label_of, item_of, rows, Long, Coverable, Workable, Worked};
+ghost use Rattle.ledger.specs.Settling.{unpaid_of};
+ghost use Rattle.ledger.specs.Posting.{standing, stored, coverage, blank, OpenBounds};
+ghost use Rattle.ledger.specs.Entries.{asked, number_of, next, interest_posted, EntryBounds, Within};
+ghost use Rattle.ledger.specs.Numbers.{taken_up, posted, with_posted, items_after, part, lying, Lies};
+ghost use Rattle.lanes.specs.OpenItems.{Kept, Coverable, Storable};
 
-use duedays::due_day;
+use common::Refusal;
+use duedays::Holidays;
 use ledger::limits::{CAPACITY, LANE_PLACES, MOST_END};
-use ledger::numbers::settle_numbers;
+use ledger::numbers::{Posted, Settled, settle_numbers};
 use ledger::{
-    BLANK, Coverage, Entered, Entry, Item, Kind, Ledger, Posted, Queue, interest_on, ledger_of,
-    made_item, queue_in,
+    Coverage, Entry, Item, Kind, Ledger, Queue, interest_on, ledger_of, made_item, queue_in,
 };
+use std::marker::Model;
 
-// An entry worked where the items are spread.
-pub fn enter_ledger(ledger: Ledger, holidays: &[u16], entry: Entry) -> Posted
-    requires within { Within (standing ledger) }
-    requires count_le_capacity { ledger.count ≤ capacity }
-    requires enterable { Enterable holidays.now entry }
-    ensures { Answered holidays.now entry (standing ledger) result }
-{
-    let all = ledger.items;
-    let mut unpaid = [0u64; LANE_PLACES];
-    let mut amount = [0u64; LANE_PLACES];
-    let mut label = [0u64; LANE_PLACES];
-    spread(all, &mut unpaid, &mut amount, &mut label);
-    let queue = queue_in(ledger);
-    let entered = enter(&mut unpaid, &mut amount, &mut label, holidays, queue, entry);
-    let after = entered.queue;
-    let items = gathered(&unpaid, &amount, &label, after.front, after.count);
-    Posted {
-        number: entered.number,
-        ledger: ledger_of(after, items),
-        interest: entered.interest,
-        unpaid: after.owed,
-    }
-}
-
-// An entry worked where the items lie; one that is refused changes nothing.
-pub fn enter(
-    unpaid: &mut [u64; LANE_PLACES],
-    amount: &mut [u64; LANE_PLACES],
-    label: &mut [u64; LANE_PLACES],
-    holidays: &[u16],
+// The open items lie one after another among more places than a ledger has, and their queue says where. To settle items moves its front and no item.
+#[derive(Drop)]
+pub struct OpenItems {
+    places: [Item; LANE_PLACES],
     queue: Queue,
-    entry: Entry,
-) -> Entered
-    requires workable { Workable unpaid.old amount.old label.old queue }
-    requires enterable { Enterable holidays.now entry }
-    ensures worked { Worked holidays.now (rows unpaid.old amount.old label.old) queue entry
-        (rows unpaid.new amount.new label.new) result }
-    ensures long { Long unpaid.new amount.new label.new }
-{
-    let front = queue.front;
-    let count = queue.count;
-    let cover = cover(
-        unpaid,
-        amount,
-        label,
-        front,
-        count,
-        entry.day,
-        queue.credit + entry.money,
-    );
-    let settled = settle_numbers(queue, entry, cover);
-    if settled.number != 0 {
-        return Entered {
-            number: settled.number,
-            interest: 0,
+}
+
+impl Model for OpenItems {
+    ghost use Rattle.ledger.specs.Posting.{Standing};
+
+    ghost Value = { Standing };
+
+    ghost use Rattle.ledger.specs.Numbers.{lying};
+    ghost use Rattle.lanes.specs.OpenItems.{Kept};
+
+    ghost view = { λ o. lying o.places o.queue };
+
+    ghost invariant = { λ o. Kept o.places o.queue };
+}
+
+impl OpenItems {
+    // The open items of a ledger.
+    pub fn of(ledger: &Ledger) -> OpenItems
+        requires { OpenBounds ledger.now }
+        ensures { result ≡ standing ledger.now }
+    {
+        let mut places = [Item::default(); LANE_PLACES];
+        places[..CAPACITY].copy_from_slice(&ledger.items);
+        OpenItems {
+            places,
+            queue: queue_in(ledger),
+        }
+    }
+
+    // The ledger that holds them.
+    pub fn ledger(&self) -> Ledger
+        ensures { result ≡ stored self.now }
+    {
+        let queue = self.queue;
+        ledger_of(
             queue,
-        };
+            gathered(&self.places[queue.front..queue.front + queue.count]),
+        )
     }
-    let at = front + cover.covered;
-    unpaid[at] -= settled.paid;
-    let due = due_day(holidays, entry.day);
-    let first = front + count;
-    let second = post_item(
-        unpaid,
-        amount,
-        label,
-        due,
-        first,
-        Kind::Interest,
-        entry.day,
-        settled.held,
-        settled.heldleft,
-    );
-    let third = post_item(
-        unpaid,
-        amount,
-        label,
-        due,
-        second,
-        Kind::Price,
-        entry.day,
-        settled.charge,
-        settled.chargeleft,
-    );
-    let end = post_item(
-        unpaid,
-        amount,
-        label,
-        due,
-        third,
-        Kind::Interest,
-        entry.day,
-        settled.arisen,
-        settled.arisenleft,
-    );
-    let interest = settled.held + settled.arisen;
-    let mut next = settled.queue;
-    if end <= MOST_END {
-        return Entered {
-            number: 0,
-            interest,
-            queue: next,
-        };
+
+    // What is unpaid over all of them.
+    pub fn unpaid(&self) -> u64
+        ensures { result ≡ unpaid_of self.now.open_items }
+    {
+        self.queue.owed
     }
-    move_back(unpaid, amount, label, next.front, next.count);
-    next.front = 0;
-    Entered {
-        number: 0,
-        interest,
-        queue: next,
+
+    pub fn credit(&self) -> u64
+        ensures { result ≡ self.now.credit }
+    {
+        self.queue.credit
+    }
+
+    // An entry, and the interest that it posts; one that is refused changes nothing.
+    pub fn enter(&mut self, holidays: Holidays<'_>, entry: Entry) -> Result<u64, Refusal>
+        requires within { Within self.old }
+        requires bounds { EntryBounds entry }
+        ensures number { told result ≡ number_of (asked holidays.entry.days.now entry self.old) }
+        ensures stands { self.new ≡ next holidays.entry.days.now entry self.old }
+        ensures interest { IfOk result (λ interest. interest ≡ interest_posted holidays.entry.days.now entry self.old) }
+    {
+        let queue = self.queue;
+        let end = queue.front + queue.count;
+        let cover = cover(
+            &self.places[queue.front..end],
+            entry.day,
+            queue.credit + entry.money,
+        );
+        let settled = settle_numbers(queue, entry, cover)?;
+        let due = holidays.due_day(entry.day);
+        store(
+            &mut self.places,
+            queue.front + cover.covered,
+            end,
+            due,
+            entry.day,
+            settled,
+        );
+        self.queue = make_room(&mut self.places, settled.queue);
+        Ok(settled.held.sum + settled.arisen.sum)
     }
 }
 
-// As many items from a place on as money covers: 28.
-fn cover(
-    unpaid: &[u64; LANE_PLACES],
-    amount: &[u64; LANE_PLACES],
-    label: &[u64; LANE_PLACES],
-    front: usize,
-    count: usize,
-    day: u16,
-    money: u64,
-) -> Coverage
-    requires { Coverable unpaid.now amount.now label.now front count day }
-    ensures { result ≡ coverage day money (take count (drop front (rows unpaid.now amount.now label.now))) }
+// Items as a ledger holds them.
+fn gathered(open: &[Item]) -> [Item; CAPACITY]
+    requires { length open.now ≤ capacity }
+    ensures { result ≡ pad capacity blank open.now }
+{
+    let mut items = [Item::default(); CAPACITY];
+    items[..open.len()].copy_from_slice(open);
+    items
+}
+
+// As many items as money covers: 28.
+fn cover(items: &[Item], day: u16, money: u64) -> Coverage
+    requires { Coverable items.now day }
+    ensures { result ≡ coverage day money items.now }
 {
     let mut left = money;
     let mut arisen: u64 = 0;
     let mut covered: usize = 0;
-    while covered < count {
-        let item = get(unpaid, amount, label, front + covered);
+    for item in items {
         if left < item.unpaid {
             break;
         }
         left -= item.unpaid;
-        arisen += interest_on(item, day);
+        arisen += interest_on(*item, day);
         covered += 1;
     }
     Coverage {
@@ -162,164 +141,60 @@ fn cover(
     }
 }
 
-// An amount posted at a place if something of it stays unpaid, and the place behind it.
-fn post_item(
-    unpaid: &mut [u64; LANE_PLACES],
-    amount: &mut [u64; LANE_PLACES],
-    label: &mut [u64; LANE_PLACES],
+// What is settled, stored: the oldest item that stays is paid a part, and what is posted goes behind the last.
+fn store(
+    places: &mut [Item; LANE_PLACES],
+    oldest: usize,
+    end: usize,
     due: u16,
+    day: u16,
+    settled: Settled,
+)
+    requires { Storable places.old oldest end settled }
+    ensures long { length places.new ≡ lane_places }
+    ensures lie { part oldest (with_posted settled (end - oldest)) places.new ≡
+        items_after due day settled (part oldest (end - oldest) places.old) }
+{
+    places[oldest].unpaid -= settled.paid;
+    let second = post(places, end, due, Kind::Interest, day, settled.held);
+    let third = post(places, second, due, Kind::Price, day, settled.charge);
+    post(places, third, due, Kind::Interest, day, settled.arisen);
+}
+
+// A sum posted at a place if something of it stays unpaid, and the place behind it.
+#[tactic(auto, using(ledger::proofs::Places::part_none, ledger::proofs::Places::part_behind, ledger::proofs::Places::taken_up_none, ledger::proofs::Places::taken_up_some))]
+fn post(
+    places: &mut [Item; LANE_PLACES],
     at: usize,
+    due: u16,
     kind: Kind,
     day: u16,
-    sum: u64,
-    left: u64,
+    amount: Posted,
 ) -> usize
-    requires long { Long unpaid.old amount.old label.old }
-    requires at_lt_lane_places { at < lane_places }
-    ensures value { result ≡ at + places left }
-    ensures by_index { (front count : ℕ) → front + count ≡ at
-        → take (count + places left) (drop front (rows unpaid.new amount.new label.new)) ≡
-        take count (drop front (rows unpaid.old amount.old label.old)) ++
-        posted due kind day sum left }
-    ensures long_2 { Long unpaid.new amount.new label.new }
+    requires { at < lane_places }
+    ensures end { result ≡ at + taken_up amount.unpaid }
+    ensures lie { (front count : ℕ) → front + count ≡ at
+        → part front (count + taken_up amount.unpaid) places.new ≡
+        part front count places.old ++ posted due kind day amount.sum amount.unpaid }
 {
-    if left == 0 {
+    if amount.unpaid == 0 {
         return at;
     }
-    let item = made_item(due, kind, day, sum, left);
-    put(unpaid, amount, label, at, item);
+    places[at] = made_item(due, kind, day, amount.sum, amount.unpaid);
     at + 1
 }
 
-// The items from a place on, moved to the front.
-fn move_back(
-    unpaid: &mut [u64; LANE_PLACES],
-    amount: &mut [u64; LANE_PLACES],
-    label: &mut [u64; LANE_PLACES],
-    front: usize,
-    count: usize,
-)
-    requires long { Long unpaid.old amount.old label.old }
-    requires count_bound { front + count ≤ lane_places }
-    ensures label_after { take count (rows unpaid.new amount.new label.new) ≡
-        take count (drop front (rows unpaid.old amount.old label.old)) }
-    ensures long_2 { Long unpaid.new amount.new label.new }
+// A queue with room for three more items behind it: where it ends too far back, its items are moved to the front.
+fn make_room(places: &mut [Item; LANE_PLACES], queue: Queue) -> Queue
+    requires lies { Lies places.old queue }
+    requires few { queue.count ≤ capacity }
+    ensures stands { lying places.new result ≡ lying places.old queue }
+    ensures kept { Kept places.new result }
 {
-    let mut i: usize = 0;
-    while i < count {
-        let item = get(unpaid, amount, label, front + i);
-        put(unpaid, amount, label, i, item);
-        i += 1;
+    let end = queue.front + queue.count;
+    if end <= MOST_END {
+        return queue;
     }
-}
-
-// The items of a ledger at the front of the lanes.
-pub fn spread(
-    items: [Item; CAPACITY],
-    unpaid: &mut [u64; LANE_PLACES],
-    amount: &mut [u64; LANE_PLACES],
-    label: &mut [u64; LANE_PLACES],
-)
-    requires { Long unpaid.old amount.old label.old }
-    ensures label_after { take capacity (rows unpaid.new amount.new label.new) ≡ items }
-    ensures long { Long unpaid.new amount.new label.new }
-{
-    let mut i: usize = 0;
-    while i < CAPACITY {
-        put(unpaid, amount, label, i, items[i]);
-        i += 1;
-    }
-}
-
-// The items from a place on, as a ledger holds them.
-pub fn gathered(
-    unpaid: &[u64; LANE_PLACES],
-    amount: &[u64; LANE_PLACES],
-    label: &[u64; LANE_PLACES],
-    front: usize,
-    count: usize,
-) -> [Item; CAPACITY]
-    requires long { Long unpaid.now amount.now label.now }
-    requires count_le_capacity { count ≤ capacity }
-    requires count_bound { front + count ≤ lane_places }
-    ensures { result ≡ pad capacity blank (take count (drop front (rows unpaid.now amount.now label.now))) }
-{
-    let mut out = [BLANK; CAPACITY];
-    let mut i: usize = 0;
-    while i < count {
-        out[i] = get(unpaid, amount, label, front + i);
-        i += 1;
-    }
-    out
-}
-
-// The item at a place.
-fn get(
-    unpaid: &[u64; LANE_PLACES],
-    amount: &[u64; LANE_PLACES],
-    label: &[u64; LANE_PLACES],
-    at: usize,
-) -> Item
-    requires long { Long unpaid.now amount.now label.now }
-    requires at_lt_lane_places { at < lane_places }
-    ensures { result ≡ get_or (rows unpaid.now amount.now label.now) at blank }
-{
-    item_of(unpaid[at], amount[at], label[at])
-}
-
-// An item stored at a place.
-fn put(
-    unpaid: &mut [u64; LANE_PLACES],
-    amount: &mut [u64; LANE_PLACES],
-    label: &mut [u64; LANE_PLACES],
-    at: usize,
-    item: Item,
-)
-    requires long { Long unpaid.old amount.old label.old }
-    requires at_lt_lane_places { at < lane_places }
-    ensures label_after { rows unpaid.new amount.new label.new ≡
-        set (rows unpaid.old amount.old label.old) at item }
-    ensures long_2 { Long unpaid.new amount.new label.new }
-{
-    unpaid[at] = item.unpaid;
-    amount[at] = item.amount;
-    label[at] = label_of(item);
-}
-
-fn item_of(unpaid: u64, amount: u64, label: u64) -> Item
-    ensures { result ≡ item_of unpaid amount label }
-{
-    Item {
-        amount,
-        unpaid,
-        obligation: (label % 65536) as u16,
-        due: (label / 65536 % 65536) as u16,
-        kind: kind_of(label),
-    }
-}
-
-fn kind_of(label: u64) -> Kind
-    ensures { result ≡ (item_of 0 0 label).kind }
-{
-    if label < 4_294_967_296 {
-        return Kind::Interest;
-    }
-    Kind::Price
-}
-
-fn label_of(item: Item) -> u64
-    ensures value { result ≡ label_of item }
-    ensures result_value { item_of item.unpaid item.amount result ≡ item }
-{
-    let kind = item.kind;
-    item.obligation as u64 + item.due as u64 * 65536 + kind_label(kind)
-}
-
-fn kind_label(kind: Kind) -> u64
-    ensures { result ≡ kind_label kind }
-{
-    match kind {
-        Kind::Interest => 0,
-        Kind::Price => 4_294_967_296,
-    }
+    places.copy_within(queue.front..end, 0);
+    Queue { front: 0, ..queue }
 }

@@ -1,12 +1,14 @@
 -- What an entry asks is what the numbers say of it. Assumes nothing.
 use Rattle.common.proofs.Words.{◌≡◌, refl, cond, List, [], ◌++◌, ℕ, ◌+◌, ◌-◌, add-zero, sub-zero, sub_self, arith, drop}
+use Rattle.common.proofs.Words.{false}
+use Rattle.std.proofs.Common.{Option, None, Some, is_some, unwrap_or}
 use Rattle.duedays.specs.DueDays.{due_day}
 use Rattle.ledger.specs.Posting.{Standing, entered, post, paid, none_held, held_posted, Ready}
-use Rattle.ledger.specs.Numbers.{after_paid, held_asked, after_held, charge_asked, after_charge, held_on, arisen_asked, after_arisen}
-use Rattle.ledger.specs.Numbers.{settled_by, less_paid, posted, items_after, queue_of}
+use Rattle.ledger.specs.Numbers.{after_paid, held_asked, after_held, after_charge, held_on, arisen_asked, after_arisen}
+use Rattle.ledger.specs.Numbers.{settled_number, settled_by, less_paid, posted, items_after, queue_of}
 use Rattle.ledger.specs.{declared.Kind.Kind, declared.Kind.TheVariants.Interest, declared.Kind.TheVariants.Price}
 use Rattle.ledger.specs.{declared.Item.Item, declared.Coverage.Coverage, declared.Entry.Entry, declared.Queue.Queue}
-use Rattle.ledger.specs.Entries.{taken, asked, number_of}
+use Rattle.ledger.specs.Entries.{closes, charged, taken, asked, number_of}
 use Rattle.common.proofs.Cases.{by_test}
 use Rattle.ledger.proofs.Posting.{post_one, post_post, post_covered, post_ready}
 use Rattle.ledger.proofs.Tallies.{with_held, Known, known_held, known_post, Asking, known_paid}
@@ -15,28 +17,40 @@ use Rattle.ledger.proofs.Tallies.{with_held, Known, known_held, known_post, Aski
 post_none : (holidays : List ℕ) (kind : Kind) (day : ℕ) (x : Standing) → Ready x → post_one holidays kind day 0 x ≡ x
 post_none holidays kind day x ready = rw (post_covered holidays kind day 0 x ready (omega arith), sub-zero x.credit)
 
+-- Where an entry closes nothing, nothing is charged.
+none_charged : (charge : Option ℕ) → is_some charge ≡ false → unwrap_or charge 0 ≡ 0
+none_charged None e = refl
+none_charged (Some n) e = cc
+
 -- An entry as steps: what comes in, interest held, the charge, interest that arose.
 module _ (holidays : List ℕ) {e : Entry} {s : Standing} {cover : Coverage} (w : Asking e s cover) where
   abbrev day : ℕ
   day = e.day
 
   in_step : Standing
-  in_step = paid day e.money (with_held (s.held - cond e.closes s.held 0) s)
+  in_step = paid day e.money (with_held (s.held - cond (closes e) s.held 0) s)
 
   taken_step : Standing
-  taken_step = post_one holidays Price day (cond e.closes e.charge 0) (post_one holidays Interest day (cond e.closes s.held 0) in_step)
+  taken_step = post_one holidays Price day (charged e) (post_one holidays Interest day (cond (closes e) s.held 0) in_step)
 
   taken_steps : taken holidays e s ≡ taken_step
   unfolding taken taken_step in_step paid
   taken_steps =
       let held = entered holidays Interest day s.held in
-      let charge = entered holidays Price day e.charge in
+      let charge = entered holidays Price day (charged e) in
       let first = post_post day e.money 0 [] held (none_held s) in
       let second = post_post day (e.money + 0) 0 held charge (none_held s) in
       let in-only = post day e.money [] s in
       let ready = post_ready day e.money [] s w.owing tt in
-      by_test e.closes (λ c. rw (c, sub_self s.held, first, second, add-zero e.money, add-zero e.money))
-      (λ c. rw (c, sub-zero s.held, post_none holidays Interest day in-only ready, post_none holidays Price day in-only ready))
+      by_test (closes e) (λ c. rw (c, sub_self s.held, first, second, add-zero e.money, add-zero e.money))
+      (λ c.
+      rw (
+        c,
+        none_charged e.charge c,
+        sub-zero s.held,
+        post_none holidays Interest day in-only ready,
+        post_none holidays Price day in-only ready,
+      ))
 
   asked_steps : (x : Standing) → taken holidays e s ≡ x → Ready x
       → asked holidays e s ≡ post_one holidays Interest day (cond e.posts x.held 0) (with_held (x.held - cond e.posts x.held 0) x)
@@ -57,17 +71,17 @@ module _ (holidays : List ℕ) {e : Entry} {s : Standing} {cover : Coverage} (w 
     taken_items =
         let due = due_day holidays day in
         (less_paid (after_paid q e cover).part rest ++ posted due Interest day (held_asked q e cover) (after_held q e cover).part) ++
-        posted due Price day (charge_asked q e cover) (after_charge q e cover).part
+        posted due Price day (charged e) (after_charge q e cover).part
 
     pub taken_known : Known (taken holidays e s) (after_charge q e cover).tally taken_items (held_on q e cover)
     unfolding taken_step in_step
     taken_known =
         let come-in = known_paid w (s.held - held_asked q e cover) in
         rw taken_steps
-        (known_post (known_post come-in holidays Interest day (held_asked q e cover)) holidays Price day (charge_asked q e cover))
+        (known_post (known_post come-in holidays Interest day (held_asked q e cover)) holidays Price day (charged e))
 
     pub asked-known :
-        Known (asked holidays e s) (after_arisen q e cover).tally (items_after holidays day (settled_by q e cover) rest)
+        Known (asked holidays e s) (after_arisen q e cover).tally (items_after (due_day holidays day) day (settled_by q e cover) rest)
         (held_on q e cover - arisen_asked q e cover)
     unfolding settled_by
     asked-known =
@@ -79,6 +93,6 @@ module _ (holidays : List ℕ) {e : Entry} {s : Standing} {cover : Coverage} (w 
     unfolding settled_by
     queue_is = rw (← asked-known.tally_is, ← asked-known.held_is)
 
-    pub number_is : (settled_by q e cover).number ≡ number_of (asked holidays e s)
-    unfolding settled_by
+    pub number_is : settled_number q e cover ≡ number_of (asked holidays e s)
+    unfolding settled_number
     number_is = rw (← asked-known.tally_is)

@@ -6,13 +6,9 @@ use lib.Seq.{drop-set-add, take-set-le}
 use Rattle.common.proofs.Cases.{by_test, cond_most}
 use Rattle.lists.proofs.Pad.{drop_take}
 use Rattle.ledger.specs.{declared.Kind.Kind, declared.Item.Item, Settling.reduced, Posting.made, Posting.blank}
-use Rattle.ledger.specs.Numbers.{less_paid, places, posted}
+use Rattle.ledger.specs.Numbers.{less_paid, taken_up, posted, part}
 
--- The items of a queue, from the front and as many as are open.
-abbrev pub part : ℕ → ℕ → List Item → List Item
-part front count items = take count (drop front items)
-
--- The item at a place of it.
+-- The item at a place of a part.
 pub at_is : (items : List Item) (front count i : ℕ) → i < count → get_or (part front count items) i blank ≡ get_or items (front + i) blank
 at_is items front count i h = get_or-take count (drop front items) i blank h ∙ get_or-drop front items i blank
 
@@ -36,9 +32,9 @@ part_oldest front (suc count) paid items h =
 -- An item is stored behind the last; where nothing of it is unpaid, its place stays free.
 pub part_behind : (due : ℕ) (kind : Kind) (day amount unpaid front count at : ℕ) (items : List Item)
     → front + count ≡ at → at < length items
-    → part front (count + places unpaid) (set items at (made due kind day amount unpaid)) ≡
+    → part front (count + taken_up unpaid) (set items at (made due kind day amount unpaid)) ≡
     part front count items ++ posted due kind day amount unpaid
-unfolding places posted
+unfolding taken_up posted
 part_behind due kind day amount unpaid front count at items e h =
     let item = made due kind day amount unpaid in
     let rest = drop front items in
@@ -47,23 +43,23 @@ part_behind due kind day amount unpaid front count at items e h =
     (by_test (ltb 0 unpaid) (λ t. rw (t, add-one count) (take-suc-set rest count item room))
     (λ t. rw (t, add-zero count, append-nil (part front count items)) (take-set-le count rest count item (le_refl count))))
 
-pub places_none : (unpaid : ℕ) → unpaid ≡ 0 → places unpaid ≡ 0
-unfolding places
-places_none unpaid e = rw e
+pub taken_up_none : (unpaid : ℕ) → unpaid ≡ 0 → taken_up unpaid ≡ 0
+unfolding taken_up
+taken_up_none unpaid e = rw e
 
-pub places_some : (unpaid : ℕ) → (unpaid ≡ 0 → ⊥) → places unpaid ≡ 1
-unfolding places
-places_some unpaid some = rw (lt-ltb 0 unpaid (omega arith))
+pub taken_up_some : (unpaid : ℕ) → (unpaid ≡ 0 → ⊥) → taken_up unpaid ≡ 1
+unfolding taken_up
+taken_up_some unpaid some = rw (lt-ltb 0 unpaid (omega arith))
 
 pub part_none : (due : ℕ) (kind : Kind) (day amount unpaid front count : ℕ) (items : List Item) → unpaid ≡ 0
-    → part front (count + places unpaid) items ≡ part front count items ++ posted due kind day amount unpaid
-unfolding places posted
+    → part front (count + taken_up unpaid) items ≡ part front count items ++ posted due kind day amount unpaid
+unfolding taken_up posted
 part_none due kind day amount unpaid front count items e = rw (e, add-zero count, append-nil (part front count items))
 
-pub length_posted : (due : ℕ) (kind : Kind) (day amount unpaid : ℕ) → length (posted due kind day amount unpaid) ≡ places unpaid
-unfolding places posted
+pub length_posted : (due : ℕ) (kind : Kind) (day amount unpaid : ℕ) → length (posted due kind day amount unpaid) ≡ taken_up unpaid
+unfolding taken_up posted
 length_posted due kind day amount unpaid = by_test (ltb 0 unpaid) (λ e. rw e) (λ e. rw e)
 
-pub places_most : (unpaid : ℕ) → places unpaid ≤ 1
-unfolding places
-places_most unpaid = cond_most (ltb 0 unpaid) 1
+pub taken_up_most : (unpaid : ℕ) → taken_up unpaid ≤ 1
+unfolding taken_up
+taken_up_most unpaid = cond_most (ltb 0 unpaid) 1

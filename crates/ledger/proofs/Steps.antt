@@ -1,12 +1,8 @@
 -- How large the numbers of a step are. Assumes nothing.
 use Rattle.common.proofs.Words.{◌≡◌, ℕ, ◌+◌, ◌-◌, ◌≤◌, arith, leb, eqb}
 use Rattle.ledger.specs.{declared.Coverage.Coverage, declared.numbers.Tally.Tally, declared.numbers.Step.Step}
-use Rattle.ledger.specs.Numbers.{posting, paying}
+use Rattle.ledger.specs.Numbers.{posting, paying, StepMost}
 use Rattle.common.proofs.Cases.{by_cond}
-
-pub record StepMost (step : Step) (count owed : ℕ) : Type 0 where
-  pub count_most : step.tally.count ≤ count
-  pub owed_most : step.tally.owed ≤ owed
 
 pub posting_most : (t : Tally) (amount : ℕ) {r : Step} → r ≡ posting t amount → StepMost r (t.count + 1) (t.owed + amount)
 unfolding posting

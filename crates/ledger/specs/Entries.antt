@@ -1,19 +1,24 @@
 -- What a call asks of the ledger, in one entry: money that comes in, and what a closing posts.
-use mathlib.Core.{Path.◌≡◌, Bool.cond, Bool.true, List.List, List.◌++◌}
-use Rattle.std.specs.Prelude.{ℕ, ◌+◌, ◌≤◌}
+use mathlib.Core.{Bool.Bool, Bool.cond, List.List, List.◌++◌}
+use Rattle.std.specs.Prelude.{ℕ, ◌+◌, ◌≤◌, is_some, unwrap_or}
 use lib.{Dec.leb, Dec.eqb, ListN.length}
 use Rattle.lists.specs.Every.{Every}
-use Rattle.duedays.specs.DueDays.{list_allowed}
 use Rattle.ledger.specs.Limits.{last_call_day, capacity, most_price, most_interest, most_money, most_credit}
-use Rattle.ledger.specs.Posting.{Standing, entered, post, none_held, paid, held_posted, stored, ItemBounds}
+use Rattle.ledger.specs.Posting.{Standing, entered, post, none_held, paid, held_posted, ItemBounds}
 use Rattle.ledger.specs.{declared.Kind.TheVariants.Interest, declared.Kind.TheVariants.Price, declared.Entry.Entry}
-use Rattle.ledger.specs.{declared.Posted.Posted, Settling.unpaid_of}
+
+-- An entry closes where it has a charge; where it has none, nothing is charged.
+abbrev pub closes : Entry → Bool
+closes e = is_some e.charge
+
+abbrev pub charged : Entry → ℕ
+charged e = unwrap_or e.charge 0
 
 -- A closing first posts interest held, if any, as an item, then a charge as a price item. Money, a payment or a net below zero, settles the oldest item first.
 unfoldable pub taken : List ℕ → Entry → Standing → Standing
 taken holidays e s =
-    cond e.closes
-    (post e.day e.money (entered holidays Interest e.day s.held ++ entered holidays Price e.day e.charge) (none_held s))
+    cond (closes e)
+    (post e.day e.money (entered holidays Interest e.day s.held ++ entered holidays Price e.day (charged e)) (none_held s))
     (paid e.day e.money s)
 
 -- On a cancelled account, interest is posted by the call that brings it, as one last item of the call's total.
@@ -33,17 +38,12 @@ next holidays e s = cond (eqb (number_of (asked holidays e s)) 0) (asked holiday
 
 -- The interest that an entry posts: what was held, where it closes, and what arose, where it posts that.
 abbrev pub interest_posted : List ℕ → Entry → Standing → ℕ
-interest_posted holidays e s = cond e.closes s.held 0 + cond e.posts (taken holidays e s).held 0
+interest_posted holidays e s = cond (closes e) s.held 0 + cond e.posts (taken holidays e s).held 0
 
 pub record EntryBounds (e : Entry) : Type 0 where
   pub day_most : e.day ≤ last_call_day
   pub money_most : e.money ≤ most_money
-  pub charge_most : e.charge ≤ most_price
-
--- An entry within its bounds, with a list of closed days within its own.
-pub record Enterable (holidays : List ℕ) (e : Entry) : Type 0 where
-  pub bounds : EntryBounds e
-  pub listed : list_allowed holidays ≡ true
+  pub charge_most : charged e ≤ most_price
 
 -- What is known of every whole account's ledger: enough for one entry.
 pub record Within (s : Standing) : Type 0 where
@@ -51,10 +51,3 @@ pub record Within (s : Standing) : Type 0 where
   pub items_within : Every ItemBounds s.open_items
   pub held_most : s.held ≤ most_interest
   pub credit_most : s.credit ≤ most_credit
-
--- What an entry at a standing is answered.
-pub record Answered (holidays : List ℕ) (e : Entry) (s : Standing) (r : Posted) : Type 0 where
-  pub number_is : r.number ≡ number_of (asked holidays e s)
-  pub ledger_is : r.ledger ≡ stored (next holidays e s)
-  pub unpaid_is : r.unpaid ≡ unpaid_of (next holidays e s).open_items
-  pub interest_is : r.number ≡ 0 → r.interest ≡ interest_posted holidays e s

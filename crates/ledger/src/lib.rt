@@ -13,13 +13,14 @@ pub mod numbers;
 
 use crate::limits::CAPACITY;
 
-#[derive(Clone, Copy)]
+#[derive(Clone, Copy, PartialEq, Eq, Debug, Default)]
 pub enum Kind {
+    #[default]
     Interest,
     Price,
 }
 
-#[derive(Clone, Copy)]
+#[derive(Clone, Copy, PartialEq, Eq, Debug, Default)]
 pub struct Item {
     pub amount: u64,
     pub unpaid: u64,
@@ -29,7 +30,7 @@ pub struct Item {
 }
 
 // The open items from the front, oldest first; interest held until the next closing; the credit balance.
-#[derive(Clone, Copy)]
+#[derive(Clone, Copy, PartialEq, Eq, Debug)]
 pub struct Ledger {
     pub count: usize,
     pub items: [Item; CAPACITY],
@@ -38,7 +39,7 @@ pub struct Ledger {
 }
 
 // The items from the front that an amount covers, what is left of it, and the interest that they bring.
-#[derive(Clone, Copy)]
+#[derive(Clone, Copy, PartialEq, Eq, Debug)]
 pub struct Coverage {
     pub covered: usize,
     pub left: u64,
@@ -46,17 +47,16 @@ pub struct Coverage {
 }
 
 // What a call asks of the ledger: money that comes in, and a charge where it closes; with `posts`, interest that is held then is posted as one last item.
-#[derive(Clone, Copy)]
+#[derive(Clone, Copy, PartialEq, Eq, Debug, Default)]
 pub struct Entry {
     pub day: u16,
     pub money: u64,
-    pub closes: bool,
-    pub charge: u64,
+    pub charge: Option<u64>,
     pub posts: bool,
 }
 
 // The numbers of a queue of items that lie from `front` on; `owed` is what is unpaid of them.
-#[derive(Clone, Copy)]
+#[derive(Clone, Copy, PartialEq, Eq, Debug)]
 pub struct Queue {
     pub front: usize,
     pub count: usize,
@@ -65,64 +65,35 @@ pub struct Queue {
     pub credit: u64,
 }
 
-// What an entry is answered where the items lie: 0, 12 or 13, the interest posted, and the queue after it.
-#[derive(Clone, Copy)]
-pub struct Entered {
-    pub number: u8,
-    pub interest: u64,
-    pub queue: Queue,
-}
-
-// What an entry is answered on a ledger, with the ledger after it and what is unpaid on it.
-#[derive(Clone, Copy)]
-pub struct Posted {
-    pub number: u8,
-    pub ledger: Ledger,
-    pub interest: u64,
-    pub unpaid: u64,
-}
-
-pub const BLANK: Item = Item {
-    amount: 0,
-    unpaid: 0,
-    obligation: 0,
-    due: 0,
-    kind: Kind::Interest,
-};
-
 impl Ledger {
     pub fn new() -> Ledger
         ensures { result ≡ stored (record { open_items = []; credit = 0; held = 0 }) }
     {
         Ledger {
             count: 0,
-            items: [BLANK; CAPACITY],
+            items: [Item::default(); CAPACITY],
             held: 0,
             credit: 0,
         }
     }
 
     // What is unpaid over all open items.
-    pub fn unpaid(self) -> u64
-        requires { OpenBounds self }
-        ensures { result ≡ unpaid_of (standing self).open_items }
+    pub fn unpaid(&self) -> u64
+        requires { OpenBounds self.now }
+        ensures { result ≡ unpaid_of (standing self.now).open_items }
     {
-        let count = self.count;
         let mut sum: u64 = 0;
-        let mut i: usize = 0;
-        while i < count {
-            let item = self.items[i];
+        for item in &self.items[..self.count] {
             sum += item.unpaid;
-            i += 1;
         }
         sum
     }
 }
 
 // The numbers of a ledger, its items at the front.
-pub fn queue_in(ledger: Ledger) -> Queue
-    requires { OpenBounds ledger }
-    ensures { result ≡ queue_in ledger }
+pub fn queue_in(ledger: &Ledger) -> Queue
+    requires { OpenBounds ledger.now }
+    ensures { result ≡ queue_in ledger.now }
 {
     Queue {
         front: 0,
@@ -162,7 +133,7 @@ pub fn made_item(due: u16, kind: Kind, day: u16, amount: u64, unpaid: u64) -> It
 pub fn charge_of(net: i32) -> u64
     ensures { result ≡ charge_of net }
 {
-    if net < 0 { 0 } else { net as u64 }
+    net.max(0) as u64
 }
 
 // The part of a net that is credited.
@@ -170,7 +141,7 @@ pub fn credit_of(net: i32) -> u64
     requires { NetBounds net }
     ensures { result ≡ credit_of net }
 {
-    if net < 0 { (0 - net) as u64 } else { 0 }
+    u64::from(net.min(0).unsigned_abs())
 }
 
 // The interest of an item that is settled on a day: 27.
@@ -186,7 +157,7 @@ pub fn interest_on(item: Item, day: u16) -> u64
             if day <= item.due {
                 return 0;
             }
-            let late = (day - item.due) as u64;
+            let late = u64::from(day - item.due);
             if late <= 10 {
                 return 0;
             }
@@ -196,6 +167,7 @@ pub fn interest_on(item: Item, day: u16) -> u64
 }
 
 // The amount of a price without the tax in it: 27(2).
+#[tactic(auto, unfolding(crate::specs::Interest::body))]
 fn body_of(amount: u64) -> u64
     requires { amount ≤ most_price }
     ensures { result ≡ body amount }

@@ -1,7 +1,7 @@
 -- A piece by a list that breaks its bounds, under way: every line is answered 14. Assumes nothing.
 use Rattle.std.specs.Prelude.{Option}
 use Rattle.intake.specs.declared.Call.{Call}
-use Rattle.common.proofs.Words.{◌≡◌, refl, sym, ap, ◌∙◌, false, List, ℕ, ◌+◌, ◌-◌, ◌≤◌, ◌<◌, sub-zero, arith, length, take}
+use Rattle.common.proofs.Words.{◌≡◌, refl, sym, ap, ◌∙◌, false, List, ℕ, ◌+◌, ◌-◌, ◌≤◌, ◌<◌, arith, length, take}
 use Rattle.duedays.specs.DueDays.{list_allowed}
 use Rattle.account.specs.{declared.Account.Account, declared.Outcome.Outcome, Outcomes.declined, Outcomes.declining}
 use Rattle.frames.specs.{Digits.written, Frames.parsed}
@@ -9,7 +9,7 @@ use Rattle.answers.specs.Answers.{answer_line, longest_answer}
 use Rattle.lines.specs.Feeding.{blank_line, nothing, between, feeding}
 use Rattle.lines.specs.{declared.Kept.Kept, declared.State.State, Line.parsed_outcome, Going.state, Going.fed_from}
 use Rattle.lines.specs.Going.{Keeps, Declines}
-use Rattle.lines.proofs.Feeding.{Ahead, ahead_start, ahead_leads, ahead_done, ahead_text}
+use Rattle.lines.proofs.Feeding.{Ahead, ahead_leads, ahead_done, ahead_text}
 use Rattle.lines.proofs.Going.{input_ended, ahead_turn, found_no_end, found_no_room, kept_ends}
 
 -- By every such list, what the whole piece makes of a state is what was written, with what the rest makes of the account, which stays.
@@ -21,17 +21,6 @@ pub record Declining (input text : List ℕ) (s : State) (n taken place : ℕ) (
   pub ahead : (holidays : List ℕ) → list_allowed holidays ≡ false
       → Ahead (feeding holidays (length text) s input) text taken place
       (fed_from holidays input taken (length text - place) (state s.account n line)) out
-
-pub declining_start : {input text : List ℕ} (s : State) → (s.length ≡ 0 → s.line ≡ blank_line)
-    → Declining input text s s.length 0 0 s.line text
-declining_start {text = text} s clear =
-    record {
-      within = omega arith;
-      out_long = refl;
-      placed = omega arith;
-      clear = clear;
-      ahead = λ holidays unlisted. rw (sub-zero (length text)) (ahead_start _ _);
-    }
 
 -- The answer to a line.
 declined_line : (holidays : List ℕ) → list_allowed holidays ≡ false → (a : Account) (line : Option Call)

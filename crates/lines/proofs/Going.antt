@@ -91,9 +91,6 @@ module _ {input : List ℕ} {from begun : ℕ} {line₀ : List ℕ} {taken n : �
   abbrev byte_at : ℕ
   byte_at = get_or input taken 0
 
-  pub keeping_ends : (taken < length input → byte_at ≡ line_feed) → Keeps input from begun line₀ line (record { taken = taken; length = n })
-  keeping_ends ends = record { onward = k.onward; within = k.within; ends = ends; none = k.none; leads = k.leads }
-
   pub keeping_on : taken < length input → (byte_at ≡ line_feed → ⊥) → {n' : ℕ} {line' : List ℕ} → Kept_on n line byte_at n' line'
       → Keeping input from begun line₀ (taken + 1) n' line'
   keeping_on more other on =

@@ -1,5 +1,5 @@
 -- Calls that look at no estimate, and readings and misses by what their calls have in common. Assumes nothing.
-use mathlib.Core.Path.{◌≡◌, refl, sym, ◌∙◌}
+use mathlib.Core.Path.{◌≡◌, refl, sym, ap, ◌∙◌}
 use mathlib.Core.Bool.{Bool, true, false, cond, false≢true}
 use mathlib.Core.List.{List, [], ◌∷◌}
 use Prim.Native.Nat.{ℕ}
@@ -9,9 +9,11 @@ use types.Run.{OneOf, miss}
 use Rattle.meter.specs.declared.Estimate.{Estimate}
 use Rattle.intake.specs.declared.Call.TheVariants.{Opening, Reading, Missed, Absent, Exchange, Disconnection, Reconnection, Cancellation}
 use Rattle.intake.specs.declared.Call.TheVariants.{Payment, StoppedCancellation}
+use Rattle.common.specs.declared.Refusal.{Refusal}
 use Rattle.intake.specs.{declared.Head.Head, declared.Call.Call, Refusals.miss_refusal, Refusals.first_refusal}
-use Rattle.plan.specs.Plans.{planned_as, passed_plan, passed_volumes, planned, planned_volumes, miss_plan, missed_volume}
-use Rattle.plan.specs.Plans.{read_planned, read_volumes, no_reading, reading_in, no_miss, miss_in, misses, reads}
+use Rattle.plan.specs.Plans.{PlannedAs, passed_plan, passed_volumes, Planned, planned_volumes, miss_plan, missed_volume}
+use Rattle.plan.specs.declared.Plan.{Plan}
+use Rattle.plan.specs.Plans.{ReadPlanned, read_volumes, no_reading, reading_in, no_miss, miss_in, misses, reads}
 use Rattle.meter.specs.Sharing.{filled_with}
 use Rattle.intake.specs.contracts.Call.{the_type}
 
@@ -43,13 +45,12 @@ module _ (h : Head) (estimates : List Estimate) where
   none_filled call e before = rw (none_shown call e)
 
 module _ (h : Head) (estimates : List Estimate) where
-  pub plan_alone : (call : Call) → (reads call ≡ true → estimates ≡ []) → planned h [] call ≡ planned h estimates call
-  unfolding planned
-  plan_alone call none = go (reads call) refl
+  pub plan_alone : (call : Call) → (reads call ≡ true → estimates ≡ []) → Planned h [] call ≡ Planned h estimates call
+  plan_alone call none = ap (PlannedAs (first_refusal h call)) (go (reads call) refl)
     where
-      go : (b : Bool) → reads call ≡ b → planned h [] call ≡ planned h estimates call
+      go : (b : Bool) → reads call ≡ b → passed_plan h [] call ≡ passed_plan h estimates call
       go true e = rw (none e)
-      go false e = rw (alone h estimates call e).0
+      go false e = sym (alone h estimates call e).0
 
   pub volumes_alone : (call : Call) → (reads call ≡ true → estimates ≡ []) → planned_volumes h [] call ≡ planned_volumes h estimates call
   volumes_alone call none = go (reads call) refl
@@ -61,8 +62,8 @@ module _ (h : Head) (estimates : List Estimate) where
 -- The planned readings and misses are the planned calls.
 module _ (h : Head) (estimates : List Estimate) where
   pub reading_planned : (call : Call) → reads call ≡ true → let r = reading_in call in
-      (read_planned h estimates r ≡ planned h estimates call) × (read_volumes h estimates r ≡ planned_volumes h estimates call)
-  unfolding first_refusal planned planned_volumes passed_plan passed_volumes
+      (ReadPlanned h estimates r ≡ Planned h estimates call) × (read_volumes h estimates r ≡ planned_volumes h estimates call)
+  unfolding first_refusal planned_volumes passed_plan passed_volumes
   reading_planned (Opening _ _ _) e = absurd (false≢true e)
   reading_planned (Reading _ _ _) e = (refl, refl)
   reading_planned (Missed _ _) e = absurd (false≢true e)
@@ -76,8 +77,8 @@ module _ (h : Head) (estimates : List Estimate) where
 
   pub miss_planned : (call : Call) → misses call ≡ true → let m = miss_in call in
       let passed = miss_plan h m.day m.fuel m.absent (missed_volume h m.absent) in
-      planned_as (miss_refusal h m.day m.fuel) passed h ≡ planned h estimates call
-  unfolding first_refusal planned passed_plan
+      PlannedAs (miss_refusal h m.day m.fuel) passed ≡ Planned h estimates call
+  unfolding first_refusal passed_plan
   miss_planned (Opening _ _ _) e = absurd (false≢true e)
   miss_planned (Reading _ _ _) e = absurd (false≢true e)
   miss_planned (Missed _ _) e = refl

@@ -1,4 +1,5 @@
 -- What a plan that 1 to 11 let pass keeps to. Assumes nothing.
+use Rattle.std.specs.Prelude.{IfSome}
 use mathlib.Core.Path.{◌≡◌, refl}
 use mathlib.Core.Bool.{Bool, true, false}
 use mathlib.Core.List.{List, [], ◌∷◌, ◌++◌}
@@ -18,16 +19,12 @@ use Rattle.intake.specs.{declared.Head.Head, declared.Call.Call, Limits.most_mis
 use Rattle.intake.specs.{Statuses.is_stopped, Statuses.start_of}
 use Rattle.intake.specs.{Periods.days_of, Refusals.reading_refusal, Refusals.miss_refusal, Refusals.first_refusal}
 use Rattle.intake.specs.Heads.{HeadBounds, EstimateBounds}
-use Rattle.plan.specs.Plans.{no_entry, changed, Room, miss_plan, read_plan, passed_plan}
+use Rattle.plan.specs.Plans.{changed, Room, miss_plan, read_plan, passed_plan}
 use Rattle.plan.specs.declared.Then.{Then}
 use Rattle.plan.specs.declared.Then.TheVariants.{Goes, Stops, Ends}
 use Rattle.intake.proofs.Passed.{begun, miss_passed, payment_passed}
 use Rattle.closing.specs.Closing.{read_net}
 use Rattle.closing.proofs.Ready.{reading_ready, read_net_bounds, miss_ready}
-
--- What is asked of the ledger.
-none_within : EntryBounds no_entry
-none_within = omega arith
 
 module _ (h : Head) (w : HeadBounds h) where
   pub missed_most : (day : ℕ) (fuel : Fuel) (volume : ℕ) → volume ≤ most_volume → miss_refusal h day fuel ≡ 0
@@ -36,7 +33,7 @@ module _ (h : Head) (w : HeadBounds h) where
       price_most (days_of (start_of h.status) day) fuel volume ((miss_ready h day fuel w e).priced volume most)
 
   miss_within : (day : ℕ) (fuel : Fuel) (absent : Bool) (volume : ℕ) → volume ≤ most_volume → miss_refusal h day fuel ≡ 0
-      → EntryBounds (miss_plan h day fuel absent volume).entry
+      → IfSome (miss_plan h day fuel absent volume).entry EntryBounds
   miss_within day fuel absent volume most e = omega (arith, (miss_ready h day fuel w e).day_most, missed_most day fuel volume most e)
 
   module _ (estimates : List Estimate) (six : length estimates ≤ most_misses) (within : Every EstimateBounds estimates) where
@@ -47,20 +44,20 @@ module _ (h : Head) (w : HeadBounds h) where
         (ready.day_most, read_net_bounds h estimates day reading fuel ready six within)
 
     read_within : (day reading : ℕ) (fuel : Fuel) (next : Then) → reading_refusal h day reading fuel ≡ 0
-        → EntryBounds (read_plan h estimates day reading fuel next).entry
+        → IfSome (read_plan h estimates day reading fuel next).entry EntryBounds
     read_within day reading fuel next e =
         let known = reading_within day reading fuel e in
         record { day_most = known.0; money_most = known.1.1; charge_most = known.1.0 }
 
-    pub entry_within : (call : Call) → first_refusal h call ≡ 0 → EntryBounds (passed_plan h estimates call).entry
+    pub entry_within : (call : Call) → first_refusal h call ≡ 0 → IfSome (passed_plan h estimates call).entry EntryBounds
     unfolding first_refusal passed_plan
-    entry_within (Opening _ _ _) e = none_within
+    entry_within (Opening _ _ _) e = tt
     entry_within (Reading day reading fuel) e = read_within day reading fuel Goes e
     entry_within (Missed day fuel) e = miss_within day fuel false h.meter.previous w.previous_most e
     entry_within (Absent day fuel) e = miss_within day fuel true 0 (omega arith) e
-    entry_within (Exchange _ _ _ _) e = none_within
+    entry_within (Exchange _ _ _ _) e = tt
     entry_within (Disconnection day reading fuel) e = read_within day reading fuel Stops e
-    entry_within (Reconnection _ _ _) e = none_within
+    entry_within (Reconnection _ _ _) e = tt
     entry_within (Cancellation day reading fuel) e = read_within day reading fuel Ends e
     entry_within (Payment day yen) e = omega (arith, payment_passed h day yen e)
     entry_within (StoppedCancellation day) e = omega (arith, begun (is_stopped h.status) h.latest day 0 e)

@@ -1,5 +1,6 @@
 -- What a call plans: the head after it, what becomes of the estimates, what is asked of the ledger, and the numbers of its answer.
-use Rattle.std.specs.Prelude.{Bool, true, false, cond, List, [], ◌∷◌, ◌++◌, ℕ, ◌+◌, ◌≤◌, ◌<◌}
+use Rattle.std.specs.Prelude.{◌≡◌, Bool, true, false, cond, List, [], ◌∷◌, ◌++◌, ℕ, ◌+◌, ◌≤◌, ◌<◌, None, Some, Result, IfOk}
+use Rattle.common.specs.{declared.Refusal.Refusal, Refusals.told}
 use lib.{Dec.eqb, IntN.pos}
 use Rattle.tariff.specs.{declared.Fuel.Fuel, Price.price_of}
 use Rattle.meter.specs.Metering.{set_on, exchanged_for, read_at, missed_at}
@@ -43,51 +44,46 @@ status_after Goes day = Supplied (day_after day)
 status_after Stops day = Stopped day
 status_after Ends day = Cancelled
 
-abbrev pub no_entry : Entry
-no_entry = record { day = 0; money = 0; closes = false; charge = 0; posts = false }
-
 -- A plan that asks nothing of the ledger.
-abbrev pub quiet_plan : ℕ → Head → Plan
-quiet_plan number h =
-    record { number = number; head = h; change = Kept; asks = false; entry = no_entry; estimated = 0; count = 0; net = pos 0 }
+abbrev pub quiet_plan : Head → Plan
+quiet_plan h = record { head = h; change = Kept; entry = None; estimated = 0; count = 0; net = pos 0 }
 
--- A declined call plans its number, and nothing else.
-abbrev pub planned_as : ℕ → Plan → Head → Plan
-planned_as number passed h = cond (eqb number 0) passed (quiet_plan number h)
+-- What a call comes to: its plan where it passes, and else the number by which it is declined.
+pub record PlannedAs (number : ℕ) (passed : Plan) (r : Result Plan Refusal) : Type 0 where
+  pub tells : told r ≡ number
+  pub plans : IfOk r (λ p. p ≡ passed)
 
 abbrev pub volumes_as : ℕ → List ℕ → List ℕ
 volumes_as number volumes = cond (eqb number 0) volumes []
 
 -- 01 and 07: supply begins at a dial.
 abbrev pub begun_plan : Head → ℕ → ℕ → ℕ → ℕ → Plan
-begun_plan h day reading digits start = quiet_plan 0 (head_on h (Supplied start) day (set_on h.meter digits reading) h.standing)
+begun_plan h day reading digits start = quiet_plan (head_on h (Supplied start) day (set_on h.meter digits reading) h.standing)
 
 -- 05: meter change.
 abbrev pub exchanged_plan : Head → ℕ → ℕ → ℕ → ℕ → Plan
-exchanged_plan h day old new digits = quiet_plan 0 (head_on h h.status day (exchanged_for h.meter old new digits) h.standing)
+exchanged_plan h day old new digits = quiet_plan (head_on h h.status day (exchanged_for h.meter old new digits) h.standing)
 
 -- 09 and 0a: what they ask of the ledger, and no more.
 abbrev pub asking_plan : Head → Status → Entry → Plan
 asking_plan h status entry =
     record {
-      number = 0;
       head = head_on h status entry.day h.meter h.standing;
       change = Kept;
-      asks = true;
-      entry = entry;
+      entry = Some entry;
       estimated = 0;
       count = 0;
       net = pos 0;
     }
 
 abbrev pub money_entry : ℕ → ℕ → Bool → Entry
-money_entry day money posts = record { day = day; money = money; closes = false; charge = 0; posts = posts }
+money_entry day money posts = record { day = day; money = money; charge = None; posts = posts }
 
 abbrev pub payment_plan : Head → ℕ → ℕ → Plan
 payment_plan h day yen = asking_plan h h.status (money_entry day yen (is_cancelled h.status))
 
 abbrev pub held_entry : ℕ → Entry
-held_entry day = record { day = day; money = 0; closes = true; charge = 0; posts = false }
+held_entry day = record { day = day; money = 0; charge = Some 0; posts = false }
 
 abbrev pub stopped_plan : Head → ℕ → Plan
 stopped_plan h day = asking_plan h Cancelled (held_entry day)
@@ -100,13 +96,11 @@ module _ (h : Head) (day : ℕ) (fuel : Fuel) (absent : Bool) (volume : ℕ) whe
   abbrev pub miss_plan : Plan
   miss_plan =
       record {
-        number = 0;
         head = head_on h (Supplied (day_after day)) day (missed_at h.meter volume) (h.standing + 1);
         change =
             Added
             (record { absent = absent; days = days_of (start_of h.status) day; fuel = fuel; volume = volume; charged = miss_charge });
-        asks = true;
-        entry = record { day = day; money = 0; closes = true; charge = miss_charge; posts = false };
+        entry = Some (record { day = day; money = 0; charge = Some miss_charge; posts = false });
         estimated = volume;
         count = 0;
         net = pos miss_charge;
@@ -121,11 +115,9 @@ missed_volume h absent = cond absent 0 h.meter.previous
 abbrev pub figured_plan : Head → ℕ → ℕ → Then → Figures → Plan
 figured_plan h day reading next f =
     record {
-      number = 0;
       head = head_on h (status_after next day) day (read_at h.meter reading f.volume) 0;
       change = Cleared;
-      asks = true;
-      entry = record { day = day; money = credit_of f.net; closes = true; charge = charge_of f.net; posts = ends next };
+      entry = Some (record { day = day; money = credit_of f.net; charge = Some (charge_of f.net); posts = ends next });
       estimated = 0;
       count = f.count;
       net = f.net;
@@ -135,9 +127,9 @@ abbrev pub read_plan : Head → List Estimate → ℕ → ℕ → Fuel → Then 
 read_plan h estimates day reading fuel next = figured_plan h day reading next (read_figures h estimates day reading fuel)
 
 -- The same by what the three calls have in common.
-abbrev pub read_planned : Head → List Estimate → ClosingRead → Plan
-read_planned h estimates r =
-    planned_as (reading_refusal h r.day r.reading r.fuel) (read_plan h estimates r.day r.reading r.fuel r.then) h
+abbrev pub ReadPlanned : Head → List Estimate → ClosingRead → Result Plan Refusal → Type 0
+ReadPlanned h estimates r =
+    PlannedAs (reading_refusal h r.day r.reading r.fuel) (read_plan h estimates r.day r.reading r.fuel r.then)
 
 abbrev pub read_volumes : Head → List Estimate → ClosingRead → List ℕ
 read_volumes h estimates r = volumes_as (reading_refusal h r.day r.reading r.fuel) (finals h estimates r.reading)
@@ -167,9 +159,9 @@ passed_volumes h estimates (Cancellation day reading fuel) = finals h estimates 
 passed_volumes h estimates (Payment day yen) = []
 passed_volumes h estimates (StoppedCancellation day) = []
 
--- The plan of any call, and the volumes that it shows.
-unfoldable pub planned : Head → List Estimate → Call → Plan
-planned h estimates call = planned_as (first_refusal h call) (passed_plan h estimates call) h
+-- What any call comes to, and the volumes that it shows.
+abbrev pub Planned : Head → List Estimate → Call → Result Plan Refusal → Type 0
+Planned h estimates call = PlannedAs (first_refusal h call) (passed_plan h estimates call)
 
 unfoldable pub planned_volumes : Head → List Estimate → Call → List ℕ
 planned_volumes h estimates call = volumes_as (first_refusal h call) (passed_volumes h estimates call)

@@ -9,7 +9,7 @@ use meter::Estimate;
 use tariff::Fuel;
 
 // What becomes of the estimates.
-#[derive(Clone, Copy)]
+#[derive(Clone, Copy, PartialEq, Eq, Debug)]
 pub enum Change {
     Kept,
     Cleared,
@@ -17,7 +17,7 @@ pub enum Change {
 }
 
 // What follows a reading: the next period, a stop, or the end.
-#[derive(Clone, Copy)]
+#[derive(Clone, Copy, PartialEq, Eq, Debug)]
 pub enum Then {
     Goes,
     Stops,
@@ -25,7 +25,7 @@ pub enum Then {
 }
 
 // What 02, 06 and 08 have in common, and what follows.
-#[derive(Clone, Copy)]
+#[derive(Clone, Copy, PartialEq, Eq, Debug)]
 pub struct ClosingRead {
     pub day: u16,
     pub reading: u32,
@@ -33,14 +33,12 @@ pub struct ClosingRead {
     pub then: Then,
 }
 
-// `number` is 1 to 11, or 0. `asks`: the entry is asked of the ledger. The last three are numbers of the answer.
-#[derive(Clone, Copy)]
+// What a call that passes makes of the head and the estimates, and what it asks of the ledger. The last three are numbers of the answer.
+#[derive(Clone, Copy, PartialEq, Eq, Debug)]
 pub struct Plan {
-    pub number: u8,
     pub head: Head,
     pub change: Change,
-    pub asks: bool,
-    pub entry: Entry,
+    pub entry: Option<Entry>,
     pub estimated: u32,
     pub count: usize,
     pub net: i32,

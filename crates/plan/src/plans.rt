@@ -7,38 +7,37 @@ ghost use Rattle.intake.specs.Periods.{resumed_start};
 ghost use Rattle.intake.specs.Limits.{most_volume};
 ghost use Rattle.intake.specs.Refusals.{begins, dial_refusal, miss_refusal, exchange_refusal, payment_refusal};
 ghost use Rattle.intake.specs.Heads.{HeadBounds};
-ghost use Rattle.plan.specs.Plans.{ends, status_after, quiet_plan, planned_as, begun_plan, exchanged_plan, payment_plan, stopped_plan};
-ghost use Rattle.plan.specs.Plans.{asking_plan, money_entry, held_entry, miss_plan, missed_volume, figured_plan, read_planned};
-ghost use Rattle.plan.specs.Plans.{read_volumes, planned, planned_volumes};
+ghost use Rattle.plan.specs.Plans.{ends, status_after, quiet_plan, PlannedAs, begun_plan, exchanged_plan, payment_plan, stopped_plan};
+ghost use Rattle.plan.specs.Plans.{asking_plan, money_entry, held_entry, miss_plan, missed_volume, figured_plan, ReadPlanned};
+ghost use Rattle.plan.specs.Plans.{read_volumes, Planned, planned_volumes};
 ghost use Rattle.meter.specs.Sharing.{filled_with};
 ghost use Rattle.closing.specs.Closing.{StandingBounds};
 
 use crate::{Change, ClosingRead, Plan, Then};
 use closing::{Figures, close, pool_to};
+use common::Refusal;
 use intake::periods::{days_of, resumed_start};
 use intake::refusals::{
-    dial_refusal, exchange_refusal, miss_refusal, payment_refusal, reading_refusal, start_refusal,
+    allow_dial, allow_exchange, allow_miss, allow_payment, allow_reading, allow_start,
 };
-use intake::statuses::{is_cancelled, is_new, is_stopped, start_of, stop_of};
+use intake::statuses::{start_of, stop_of};
 use intake::{Call, Head, Status};
 use ledger::{Entry, charge_of, credit_of};
 use meter::{Estimate, Meter};
 use tariff::{Fuel, price};
 
-const NO_ENTRY: Entry = Entry {
-    day: 0,
-    money: 0,
-    closes: false,
-    charge: 0,
-    posts: false,
-};
-
-// Any call, over the estimates that stand. The three calls that read the meter to close a period go one road.
-#[tactic(auto, unfolding(intake::specs::Refusals::first_refusal, crate::specs::Plans::planned, crate::specs::Plans::planned_volumes, crate::specs::Plans::passed_plan, crate::specs::Plans::passed_volumes))]
-pub fn plan_with(head: Head, standing: &[Estimate], call: Call, volumes: &mut [u32; 7]) -> Plan
+// Any call, over the estimates that stand. The three calls that read the meter to close a period go one road. Fuel prices are
+// taken apart and made anew, so that the compiler keeps the call out of memory.
+#[tactic(auto, unfolding(intake::specs::Refusals::first_refusal, crate::specs::Plans::planned_volumes, crate::specs::Plans::passed_plan, crate::specs::Plans::passed_volumes))]
+pub fn plan_with(
+    head: Head,
+    standing: &[Estimate],
+    call: Call,
+    volumes: &mut [u32; 7],
+) -> Result<Plan, Refusal>
     requires head_bounds { HeadBounds head }
     requires standing_bounds { StandingBounds standing.now }
-    ensures value { result ≡ planned head standing.now call }
+    ensures value { Planned head standing.now call result }
     ensures volumes_after { volumes.new ≡ filled_with (planned_volumes head standing.now call) volumes.old }
 {
     let read = match call {
@@ -47,24 +46,38 @@ pub fn plan_with(head: Head, standing: &[Estimate], call: Call, volumes: &mut [u
             reading,
             digits,
         } => return plan_opening(head, day, reading, digits),
-        Call::Reading { day, reading, fuel } => ClosingRead {
+        Call::Reading {
             day,
             reading,
-            fuel,
+            fuel: Fuel { lng, propane },
+        } => ClosingRead {
+            day,
+            reading,
+            fuel: Fuel { lng, propane },
             then: Then::Goes,
         },
-        Call::Missed { day, fuel } => return plan_miss(head, day, fuel, false),
-        Call::Absent { day, fuel } => return plan_miss(head, day, fuel, true),
+        Call::Missed {
+            day,
+            fuel: Fuel { lng, propane },
+        } => return plan_miss(head, day, Fuel { lng, propane }, false),
+        Call::Absent {
+            day,
+            fuel: Fuel { lng, propane },
+        } => return plan_miss(head, day, Fuel { lng, propane }, true),
         Call::Exchange {
             day,
             old,
             new,
             digits,
         } => return plan_exchange(head, day, old, new, digits),
-        Call::Disconnection { day, reading, fuel } => ClosingRead {
+        Call::Disconnection {
             day,
             reading,
-            fuel,
+            fuel: Fuel { lng, propane },
+        } => ClosingRead {
+            day,
+            reading,
+            fuel: Fuel { lng, propane },
             then: Then::Stops,
         },
         Call::Reconnection {
@@ -72,10 +85,14 @@ pub fn plan_with(head: Head, standing: &[Estimate], call: Call, volumes: &mut [u
             reading,
             digits,
         } => return plan_reconnection(head, day, reading, digits),
-        Call::Cancellation { day, reading, fuel } => ClosingRead {
+        Call::Cancellation {
             day,
             reading,
-            fuel,
+            fuel: Fuel { lng, propane },
+        } => ClosingRead {
+            day,
+            reading,
+            fuel: Fuel { lng, propane },
             then: Then::Ends,
         },
         Call::Payment { day, yen } => return plan_payment(head, day, yen),
@@ -85,104 +102,74 @@ pub fn plan_with(head: Head, standing: &[Estimate], call: Call, volumes: &mut [u
 }
 
 // 01: opening
-fn plan_opening(head: Head, day: u16, reading: u32, digits: u8) -> Plan
-    ensures { result ≡ planned_as (dial_refusal (is_new head.status) head day reading digits)
-        (begun_plan head day reading digits day) head }
+fn plan_opening(head: Head, day: u16, reading: u32, digits: u8) -> Result<Plan, Refusal>
+    ensures { PlannedAs (dial_refusal (is_new head.status) head day reading digits)
+        (begun_plan head day reading digits day) result }
 {
-    let status = head.status;
-    let number = dial_refusal(is_new(status), head, day, reading, digits);
-    if number != 0 {
-        return quiet(number, head);
-    }
-    begin_period(head, day, reading, digits, day)
+    allow_dial(head.status.is_new(), head, day, reading, digits)?;
+    Ok(begin_period(head, day, reading, digits, day))
 }
 
 // 07: resumption
-fn plan_reconnection(head: Head, day: u16, reading: u32, digits: u8) -> Plan
-    ensures { result ≡ planned_as (dial_refusal (is_stopped head.status) head day reading digits)
-        (begun_plan head day reading digits (resumed_start (stop_of head.status) day)) head }
+fn plan_reconnection(head: Head, day: u16, reading: u32, digits: u8) -> Result<Plan, Refusal>
+    ensures { PlannedAs (dial_refusal (is_stopped head.status) head day reading digits)
+        (begun_plan head day reading digits (resumed_start (stop_of head.status) day)) result }
 {
-    let status = head.status;
-    let number = dial_refusal(is_stopped(status), head, day, reading, digits);
-    if number != 0 {
-        return quiet(number, head);
-    }
-    let start = resumed_start(stop_of(status), day);
-    begin_period(head, day, reading, digits, start)
+    allow_dial(head.status.is_stopped(), head, day, reading, digits)?;
+    let start = resumed_start(stop_of(head.status), day);
+    Ok(begin_period(head, day, reading, digits, start))
 }
 
 // The dial is set and a period begins.
 fn begin_period(head: Head, day: u16, reading: u32, digits: u8, start: u16) -> Plan
     ensures { result ≡ begun_plan head day reading digits start }
 {
-    let meter = head.meter;
-    quiet(
-        0,
-        Head {
-            status: Status::Supplied { start },
-            latest: day,
-            meter: Meter {
-                digits,
-                dial: reading,
-                ..meter
-            },
-            ..head
+    quiet(Head {
+        status: Status::Supplied { start },
+        latest: day,
+        meter: Meter {
+            digits,
+            dial: reading,
+            ..head.meter
         },
-    )
+        ..head
+    })
 }
 
 // 05: the old meter's advance goes to the pool, and the new meter goes on.
-fn plan_exchange(head: Head, day: u16, old: u32, new: u32, digits: u8) -> Plan
+fn plan_exchange(head: Head, day: u16, old: u32, new: u32, digits: u8) -> Result<Plan, Refusal>
     requires { HeadBounds head }
-    ensures { result ≡ planned_as (exchange_refusal head day old new digits) (exchanged_plan head day old new digits) head }
+    ensures { PlannedAs (exchange_refusal head day old new digits) (exchanged_plan head day old new digits) result }
 {
-    let meter = head.meter;
-    let number = exchange_refusal(head, day, old, new, digits);
-    if number != 0 {
-        return quiet(number, head);
-    }
-    let pool = pool_to(meter, old);
-    quiet(
-        0,
-        Head {
-            latest: day,
-            meter: Meter {
-                digits,
-                dial: new,
-                pool,
-                ..meter
-            },
-            ..head
+    allow_exchange(head, day, old, new, digits)?;
+    let pool = pool_to(head.meter, old);
+    Ok(quiet(Head {
+        latest: day,
+        meter: Meter {
+            digits,
+            dial: new,
+            pool,
+            ..head.meter
         },
-    )
+        ..head
+    }))
 }
 
 // 09: interest that the payment brings is held, and on a cancelled account posted at once.
-fn plan_payment(head: Head, day: u16, yen: u32) -> Plan
-    ensures { result ≡ planned_as (payment_refusal head day yen) (payment_plan head day yen) head }
+fn plan_payment(head: Head, day: u16, yen: u32) -> Result<Plan, Refusal>
+    ensures { PlannedAs (payment_refusal head day yen) (payment_plan head day yen) result }
 {
-    let status = head.status;
-    let number = payment_refusal(head, day, yen);
-    if number != 0 {
-        return quiet(number, head);
-    }
-    asking(
-        head,
-        status,
-        money_entry(day, yen as u64, is_cancelled(status)),
-    )
+    allow_payment(head, day, yen)?;
+    let entry = money_entry(day, u64::from(yen), head.status.is_cancelled());
+    Ok(asking(head, head.status, entry))
 }
 
 // 0a: interest held is posted, as by a closing with no net.
-fn plan_stopped(head: Head, day: u16) -> Plan
-    ensures { result ≡ planned_as (begins (is_stopped head.status) head.latest day 0) (stopped_plan head day) head }
+fn plan_stopped(head: Head, day: u16) -> Result<Plan, Refusal>
+    ensures { PlannedAs (begins (is_stopped head.status) head.latest day 0) (stopped_plan head day) result }
 {
-    let status = head.status;
-    let number = start_refusal(is_stopped(status), head.latest, day);
-    if number != 0 {
-        return quiet(number, head);
-    }
-    asking(head, Status::Cancelled, held_entry(day))
+    allow_start(head.status.is_stopped(), head.latest, day)?;
+    Ok(asking(head, Status::Cancelled, held_entry(day)))
 }
 
 // Money comes in.
@@ -192,8 +179,7 @@ fn money_entry(day: u16, money: u64, posts: bool) -> Entry
     Entry {
         day,
         money,
-        closes: false,
-        charge: 0,
+        charge: None,
         posts,
     }
 }
@@ -205,8 +191,7 @@ fn held_entry(day: u16) -> Entry
     Entry {
         day,
         money: 0,
-        closes: true,
-        charge: 0,
+        charge: Some(0),
         posts: false,
     }
 }
@@ -216,15 +201,13 @@ fn asking(head: Head, status: Status, entry: Entry) -> Plan
     ensures { result ≡ asking_plan head status entry }
 {
     Plan {
-        number: 0,
         head: Head {
             status,
             latest: entry.day,
             ..head
         },
         change: Change::Kept,
-        asks: true,
-        entry,
+        entry: Some(entry),
         estimated: 0,
         count: 0,
         net: 0,
@@ -233,16 +216,13 @@ fn asking(head: Head, status: Status, entry: Entry) -> Plan
 
 // 03 bills the volume of the period just before, 04 bills 0.
 #[inline(always)]
-fn plan_miss(head: Head, day: u16, fuel: Fuel, absent: bool) -> Plan
+fn plan_miss(head: Head, day: u16, fuel: Fuel, absent: bool) -> Result<Plan, Refusal>
     requires { HeadBounds head }
-    ensures { result ≡ planned_as (miss_refusal head day fuel) (miss_plan head day fuel absent (missed_volume head absent)) head }
+    ensures { PlannedAs (miss_refusal head day fuel) (miss_plan head day fuel absent (missed_volume head absent)) result }
 {
-    let number = miss_refusal(head, day, fuel);
-    if number != 0 {
-        return quiet(number, head);
-    }
+    allow_miss(head, day, fuel)?;
     let volume = missed_volume(head, absent);
-    estimate_period(head, day, fuel, absent, volume)
+    Ok(estimate_period(head, day, fuel, absent, volume))
 }
 
 fn missed_volume(head: Head, absent: bool) -> u32
@@ -260,18 +240,15 @@ fn estimate_period(head: Head, day: u16, fuel: Fuel, absent: bool, volume: u32) 
     requires volume_le_most_volume { volume ≤ most_volume }
     ensures { result ≡ miss_plan head day fuel absent volume }
 {
-    let status = head.status;
-    let meter = head.meter;
-    let days = days_of(start_of(status), day);
-    let charged = price(days as u32, fuel, volume);
+    let days = days_of(start_of(head.status), day);
+    let charged = price(u32::from(days), fuel, volume);
     Plan {
-        number: 0,
         head: Head {
             status: Status::Supplied { start: day + 1 },
             latest: day,
             meter: Meter {
                 previous: volume,
-                ..meter
+                ..head.meter
             },
             standing: head.standing + 1,
             ..head
@@ -285,14 +262,12 @@ fn estimate_period(head: Head, day: u16, fuel: Fuel, absent: bool, volume: u32) 
                 charged,
             },
         },
-        asks: true,
-        entry: Entry {
+        entry: Some(Entry {
             day,
             money: 0,
-            closes: true,
-            charge: charged as u64,
+            charge: Some(u64::from(charged)),
             posts: false,
-        },
+        }),
         estimated: volume,
         count: 0,
         net: charged as i32,
@@ -305,51 +280,44 @@ fn plan_reading(
     standing: &[Estimate],
     read: ClosingRead,
     volumes: &mut [u32; 7],
-) -> Plan
+) -> Result<Plan, Refusal>
     requires head_bounds { HeadBounds head }
     requires standing_bounds { StandingBounds standing.now }
-    ensures value { result ≡ read_planned head standing.now read }
+    ensures value { ReadPlanned head standing.now read result }
     ensures volumes_after { volumes.new ≡ filled_with (read_volumes head standing.now read) volumes.old }
 {
-    let number = reading_refusal(head, read.day, read.reading, read.fuel);
-    if number != 0 {
-        return quiet(number, head);
-    }
+    allow_reading(head, read.day, read.reading, read.fuel)?;
     let figures = close(head, standing, read.day, read.reading, read.fuel, volumes);
-    after_reading(head, read.day, read.reading, read.then, figures)
+    Ok(after_reading(head, read, figures))
 }
 
 // All volumes are final, so no estimate stands and the pool is 0. A cancellation posts the interest that it brings, too.
-fn after_reading(head: Head, day: u16, reading: u32, then: Then, figures: Figures) -> Plan
-    requires day_le_last_call_day { day ≤ last_call_day }
+fn after_reading(head: Head, read: ClosingRead, figures: Figures) -> Plan
+    requires day_le_last_call_day { read.day ≤ last_call_day }
     requires net_bounds { NetBounds figures.net }
-    ensures { result ≡ figured_plan head day reading then figures }
+    ensures { result ≡ figured_plan head read.day read.reading read.then figures }
 {
-    let meter = head.meter;
     let net = figures.net;
     Plan {
-        number: 0,
         head: Head {
-            status: status_after(then, day),
-            latest: day,
+            status: status_after(read.then, read.day),
+            latest: read.day,
             meter: Meter {
-                dial: reading,
+                dial: read.reading,
                 pool: 0,
                 previous: figures.volume,
-                ..meter
+                ..head.meter
             },
             standing: 0,
             ..head
         },
         change: Change::Cleared,
-        asks: true,
-        entry: Entry {
-            day,
+        entry: Some(Entry {
+            day: read.day,
             money: credit_of(net),
-            closes: true,
-            charge: charge_of(net),
-            posts: ends(then),
-        },
+            charge: Some(charge_of(net)),
+            posts: ends(read.then),
+        }),
         estimated: 0,
         count: figures.count,
         net,
@@ -359,11 +327,7 @@ fn after_reading(head: Head, day: u16, reading: u32, then: Then, figures: Figure
 fn ends(then: Then) -> bool
     ensures { result ≡ ends then }
 {
-    match then {
-        Then::Goes => false,
-        Then::Stops => false,
-        Then::Ends => true,
-    }
+    matches!(then, Then::Ends)
 }
 
 fn status_after(then: Then, day: u16) -> Status
@@ -378,15 +342,13 @@ fn status_after(then: Then, day: u16) -> Status
 }
 
 // A plan that asks nothing of the ledger.
-pub fn quiet(number: u8, head: Head) -> Plan
-    ensures { result ≡ quiet_plan number head }
+fn quiet(head: Head) -> Plan
+    ensures { result ≡ quiet_plan head }
 {
     Plan {
-        number,
         head,
         change: Change::Kept,
-        asks: false,
-        entry: NO_ENTRY,
+        entry: None,
         estimated: 0,
         count: 0,
         net: 0,

@@ -4,7 +4,7 @@
 #![tactic(auto)]
 
 use account::Account;
-use ledger::{BLANK, Kind};
+use ledger::{Item, Kind};
 use meter::Estimate;
 use samples::{but, show};
 use std::io;
@@ -87,12 +87,12 @@ fn blank_places(rt: &impl Print) -> io::Result<()> {
     )?;
     show(
         rt,
-        but(Account::new(), |new| new.ledger.items[0] = BLANK),
+        but(Account::new(), |new| new.ledger.items[0] = Item::default()),
         b"new, the first place of the items blank",
     )?;
     show(
         rt,
-        but(Account::new(), |new| new.ledger.items[71] = BLANK),
+        but(Account::new(), |new| new.ledger.items[71] = Item::default()),
         b"new, the last place of the items blank",
     )
 }

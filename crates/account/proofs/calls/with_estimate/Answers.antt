@@ -15,4 +15,4 @@ returns c =
     let count : length front ≡ n = length-take-le n places (omega arith) in
     let filled : front ++ drop n (replicate most_misses blank) ≡ pad most_misses blank front = rw (drop_replicate blank n most_misses, count) in
     let stored = pad_store blank most_misses n front c.args.estimate count (omega arith) in
-    rw (c.copy_from_slice.ensures.after, c.standing.ensures, c.no_estimates.ensures, filled, stored, length-append front (c.args.estimate ∷ []), count)
+    rw (c.copy_from_slice.ensures.after, c.standing.ensures, c.no_estimates-none.ensures, filled, stored, length-append front (c.args.estimate ∷ []), count)

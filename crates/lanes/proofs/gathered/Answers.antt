@@ -1,0 +1,11 @@
+use Rattle.std.proofs.Common.{◌≡◌}
+use Rattle.ledger.specs.{Limits.capacity, Posting.blank}
+use Rattle.lanes.proofs.Places.{padded}
+use Rattle.lanes.proofs.gathered.Goals as goal
+
+pub returns : goal.returns
+returns c =
+    let e = c.default-items.ensures in
+    let is : c.default-items.result ≡ blank =
+    λ i. record { amount = e.0 i; unpaid = e.1.0 i; obligation = e.1.1.0 i; due = e.1.1.1.0 i; kind = e.1.1.1.1 i } in
+    rw c.copy_from_slice.ensures.after (padded capacity c.args.open.now is)
