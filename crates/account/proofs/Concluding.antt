@@ -4,7 +4,8 @@ use Rattle.std.specs.Prelude.{Result, Ok, Err, IsErrAnd}
 use Rattle.common.specs.{declared.Refusal.Refusal, Refusals.number_of}
 use Rattle.common.proofs.Refusals.{number_some}
 use Rattle.duedays.specs.DueDays.{list_allowed}
-use Rattle.account.specs.{declared.Account.Account, Calls.head_of, Calls.Work, Calls.work, declared.Outcome.Outcome, Whole.whole, Refusals.last_refusal, Refusals.refusal}
+use Rattle.account.specs.{declared.Account.Account, Calls.head_of, Calls.Work, Calls.work, declared.Outcome.Outcome}
+use Rattle.account.specs.{Whole.whole, Refusals.last_refusal, Refusals.refusal}
 use Rattle.account.specs.Outcomes.{declined, concluded, outcome, OutcomeAs, Concluded}
 use Rattle.intake.specs.{declared.Call.Call, Refusals.first_refusal}
 

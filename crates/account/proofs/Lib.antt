@@ -1,5 +1,6 @@
 -- Laws of the account.
 pub mod Made
+pub mod Equal
 pub mod Facts
 pub mod Passed
 pub mod Sound

@@ -9,10 +9,10 @@ ghost use Rattle.account.specs.Calls.{new_account};
 ghost use Rattle.account.specs.Outcomes.{outcome};
 
 pub mod calls;
-mod whole;
+pub mod whole;
 
 use crate::calls::decline;
-use crate::whole::is_whole;
+use crate::whole::WholeAccount;
 use common::Refusal;
 use duedays::Holidays;
 use intake::{Call, Status};
@@ -20,6 +20,7 @@ use ledger::Ledger;
 use meter::{Estimates, Meter, Volumes};
 use tariff::Fuel;
 
+// A household's account.
 #[derive(Clone, Copy, PartialEq, Eq, Debug)]
 pub struct Account {
     pub status: Status,
@@ -42,6 +43,7 @@ pub struct Answer {
     pub credit: u64,
 }
 
+// What a call hands back.
 #[derive(Clone, Copy, PartialEq, Eq, Debug)]
 pub struct Outcome {
     pub account: Account,
@@ -165,11 +167,11 @@ impl Account {
         ensures { result ≡ outcome holidays.now self call }
     {
         let Some(holidays) = Holidays::of(holidays) else {
-            return decline(self, Refusal::ClosedDays);
+            return decline(self, Refusal::ClosedDays.number());
         };
-        if !is_whole(self) {
-            return decline(self, Refusal::NotWhole);
-        }
-        calls::answer(self, holidays, call)
+        let Some(account) = WholeAccount::of(self) else {
+            return decline(self, Refusal::NotWhole.number());
+        };
+        account.answer(holidays, call)
     }
 }

@@ -1,13 +1,9 @@
-// Number 41: whether an account handed in is whole. One walk over the open items and the standing estimates, and of a new account
-// over all places.
-ghost use Rattle.std.specs.Prelude.{◌≡◌, cond};
-ghost use Rattle.lists.specs.Every.{every, same};
-ghost use Rattle.meter.specs.Sharing as Sharing;
+// Accounts that are known to be whole: number 41 declines every other. A walk over the open items and one over the standing estimates; a new
+// account is as made.
+ghost use Rattle.std.specs.Prelude.{◌≡◌, true, cond, is_some, IfSome};
+ghost use Rattle.lists.specs.Every.{every};
 ghost use Rattle.ledger.specs.Interest.{is_price};
-ghost use Rattle.ledger.specs.Posting.{blank};
 ghost use Rattle.ledger.specs.Limits.{most_price, most_interest};
-ghost use Rattle.account.specs.Calls.{new_account};
-ghost use Rattle.account.specs.Whole.{same_estimate, same_item, made_meter, made_estimates, made_ledger, as_made};
 ghost use Rattle.account.specs.Whole.{whole_estimate, whole_item, whole_ledger, whole_meter, whole_parts, whole};
 
 use crate::Account;
@@ -18,14 +14,36 @@ use intake::limits::{
 };
 use ledger::limits::{CAPACITY, MOST_CREDIT, MOST_INTEREST, MOST_PRICE};
 use ledger::{Item, Kind, Ledger};
-use meter::{Estimate, Estimates};
+use meter::Estimate;
 
-pub fn is_whole(account: Account) -> bool
-    ensures { result ≡ whole account }
+// A whole account.
+#[derive(Drop)]
+pub struct WholeAccount {
+    pub account: Account,
+    ghost is_whole: { whole account ≡ true },
+}
+
+impl WholeAccount {
+    // None for an account that is not whole: 41.
+    pub fn of(account: Account) -> Option<WholeAccount>
+        ensures is_whole { is_some result ≡ whole account }
+        ensures same { IfSome result (λ known. known.account ≡ account) }
+    {
+        if is_whole(&account) {
+            Some(WholeAccount { account })
+        } else {
+            None
+        }
+    }
+}
+
+#[tactic(auto, unfolding(crate::specs::Whole::whole_status, crate::specs::Whole::whole))]
+fn is_whole(account: &Account) -> bool
+    ensures { result ≡ whole account.now }
 {
     let status = account.status;
     match status {
-        Status::New => as_made(account),
+        Status::New => *account == Account::new(),
         Status::Supplied { start } => {
             (u32::from(start) <= u32::from(account.latest) + 1) & whole_parts(account)
         }
@@ -34,102 +52,16 @@ pub fn is_whole(account: Account) -> bool
     }
 }
 
-// A new account is as made, in every field and in every place of its arrays.
-fn as_made(account: Account) -> bool
-    ensures { result ≡ as_made account }
-{
-    made_meter(account) & made_estimates(account.estimates) & made_ledger(account.ledger)
-}
-
-fn made_meter(account: Account) -> bool
-    ensures { result ≡ made_meter account }
-{
-    let meter = account.meter;
-    (account.latest == 0)
-        & (meter.digits == 0)
-        & (meter.dial == 0)
-        & (meter.pool == 0)
-        & (meter.previous == 0)
-}
-
-fn made_estimates(estimates: Estimates) -> bool
-    ensures { result ≡ made_estimates estimates }
-{
-    (estimates.count == 0) & blank_estimates(estimates)
-}
-
-fn blank_estimates(estimates: Estimates) -> bool
-    ensures { result ≡ same same_estimate estimates.periods new_account.estimates.periods }
-{
-    let mut blank = true;
-    let mut i: usize = 0;
-    while i < MOST_MISSES {
-        let estimate = estimates.periods[i];
-        blank = blank & blank_estimate(estimate);
-        i += 1;
-    }
-    blank
-}
-
-fn blank_estimate(estimate: Estimate) -> bool
-    ensures { result ≡ same_estimate estimate Sharing.blank }
-{
-    !estimate.absent
-        & (estimate.days == 0)
-        & (estimate.fuel.lng == 0)
-        & (estimate.fuel.propane == 0)
-        & (estimate.volume == 0)
-        & (estimate.charged == 0)
-}
-
-fn made_ledger(ledger: Ledger) -> bool
-    ensures { result ≡ made_ledger ledger }
-{
-    (ledger.count == 0) & (ledger.held == 0) & (ledger.credit == 0) & blank_items(ledger)
-}
-
-fn blank_items(ledger: Ledger) -> bool
-    ensures { result ≡ same same_item ledger.items new_account.ledger.items }
-{
-    let mut blank = true;
-    let mut i: usize = 0;
-    while i < CAPACITY {
-        let item = ledger.items[i];
-        blank = blank & blank_item(item);
-        i += 1;
-    }
-    blank
-}
-
-fn blank_item(item: Item) -> bool
-    ensures { result ≡ same_item item blank }
-{
-    let kind = item.kind;
-    !is_price(kind)
-        & (item.amount == 0)
-        & (item.unpaid == 0)
-        & (item.obligation == 0)
-        & (item.due == 0)
-}
-
-fn is_price(kind: Kind) -> bool
-    ensures { result ≡ is_price kind }
-{
-    match kind {
-        Kind::Interest => false,
-        Kind::Price => true,
-    }
-}
-
 #[tactic(auto, unfolding(crate::specs::Whole::whole_parts))]
-fn whole_parts(account: Account) -> bool
-    ensures { result ≡ whole_parts account }
+fn whole_parts(account: &Account) -> bool
+    ensures { result ≡ whole_parts account.now }
 {
-    whole_meter(account) & whole_ledger(account.latest, account.ledger)
+    whole_meter(account) & whole_ledger(account.latest, &account.ledger)
 }
 
-fn whole_meter(account: Account) -> bool
-    ensures { result ≡ whole_meter account }
+// The latest day, the meter and the estimates that stand. The digits are asked before the span, the count before the walk.
+fn whole_meter(account: &Account) -> bool
+    ensures { result ≡ whole_meter account.now }
 {
     let meter = account.meter;
     if !digits_allowed(meter.digits) {
@@ -142,18 +74,13 @@ fn whole_meter(account: Account) -> bool
         & on_dial(meter.digits, meter.dial)
         & (meter.pool <= MOST_VOLUME)
         & (meter.previous <= MOST_VOLUME)
-        & whole_estimates(account.estimates.standing())
+        & whole_estimates(account.estimates.standing().periods)
 }
 
-#[tactic(auto, using(lists::proofs::Every::every_suc))]
 fn whole_estimates(estimates: &[Estimate]) -> bool
     ensures { result ≡ every whole_estimate estimates.now }
 {
-    let mut whole = true;
-    for estimate in estimates {
-        whole = whole & whole_estimate(*estimate);
-    }
-    whole
+    estimates.iter().all(|estimate| whole_estimate(*estimate))
 }
 
 #[tactic(auto, unfolding(crate::specs::Whole::whole_estimate))]
@@ -166,8 +93,9 @@ fn whole_estimate(estimate: Estimate) -> bool
         & (estimate.charged <= MOST_CHARGE)
 }
 
-fn whole_ledger(latest: u16, ledger: Ledger) -> bool
-    ensures { result ≡ whole_ledger latest ledger }
+// The open items, interest held and credit. The count is asked before the walk.
+fn whole_ledger(latest: u16, ledger: &Ledger) -> bool
+    ensures { result ≡ whole_ledger latest ledger.now }
 {
     if ledger.count > CAPACITY {
         return false;
@@ -178,15 +106,10 @@ fn whole_ledger(latest: u16, ledger: Ledger) -> bool
         & ((ledger.credit == 0) | (ledger.count == 0))
 }
 
-#[tactic(auto, using(lists::proofs::Every::every_suc))]
 fn whole_items(latest: u16, items: &[Item]) -> bool
     ensures { result ≡ every (whole_item latest) items.now }
 {
-    let mut whole = true;
-    for item in items {
-        whole = whole & whole_item(latest, *item);
-    }
-    whole
+    items.iter().all(|item| whole_item(latest, *item))
 }
 
 #[tactic(auto, unfolding(crate::specs::Whole::whole_item))]
@@ -199,6 +122,7 @@ fn whole_item(latest: u16, item: Item) -> bool
         & (item.due <= LAST_DUE_DAY)
 }
 
+// The largest amount of an item.
 fn amount_limit(kind: Kind) -> u64
     ensures { result ≡ cond (is_price kind) most_price most_interest }
 {

@@ -2,7 +2,7 @@
 use Rattle.common.proofs.Words.{◌≡◌, refl, sym, ap, ◌∙◌, List, [], ◌∷◌, ◌++◌, append_assoc, append-nil}
 use Rattle.common.proofs.Words.{ℕ, zero, suc, ◌+◌, ◌-◌, ◌*◌, ◌/◌, ◌%◌, ◌≤◌, ◌<◌, add-zero, zero-add, add-suc, suc-add, add-one, arith}
 use Rattle.common.proofs.Words.{length, get_or, set, take, drop, replicate, length-append, length-drop, length-replicate, length-set, lt-ltb}
-use Rattle.common.proofs.Words.{take_all, take-append_seam, drop-drop, drop-cons, drop_of_length-le, ℤ, pos, negsuc, w32, of_z}
+use Rattle.common.proofs.Words.{length-take-le, take_all, take-append_seam, drop-drop, drop-cons, drop_of_length-le, ℤ, pos, negsuc, w32, of_z}
 use native.Mathlib.Nat.{zero-div, zero-mod}
 use lib.{ListN.replicate-append-replicate, Seq.set_comm, Seq.drop-append_seam, Seq.set_at}
 use borrow.Rule.Slice.PartMut.{put_mid}
@@ -45,6 +45,13 @@ written_in_part text at xs h e =
     let none : drop (length text - at) rest ≡ [] = drop_of_length-le rest {i = length text - at} (omega (arith, length-drop at text)) in
     rw (e, whole, front, none, append-nil (xs ++ drop (length xs) rest), drop-drop (length xs) at text, sets-eq xs text at h)
     (sym (append_assoc (take at text) xs (drop (at + length xs) text)))
+
+-- What is written over a text of its length is all that stands there.
+pub written_all : (text : List ℕ) {xs now : List ℕ} → length text ≡ length xs → now ≡ written text 0 xs → now ≡ xs
+written_all text {xs} long is =
+    let front = rw (zero-add (length xs)) at (sets-eq xs text 0 (omega arith)) in
+    let none : drop (length xs) text ≡ [] = drop_of_length-le text {i = length xs} (omega arith) in
+    rw (is, front, none, append-nil xs)
 
 -- Zero is so many characters 0.
 pub digits_zero : (base k : ℕ) → digits base k 0 ≡ replicate k 48
@@ -104,6 +111,14 @@ module _ {old xs one : List ℕ} {n : ℕ} (p : Put old xs n one) where
         stands = rw (size, e, p.stands, front, behind, drop-drop m n old, append_assoc xs ys (drop (n + m) old));
         long = rw (length-append, p.long, l);
       }
+
+  -- a text written at the front of a part of its length
+  pub put_front : {ys part : List ℕ} {m k : ℕ} → length ys ≡ m → n + m ≤ length old → k ≡ m → part ≡ written (take k (drop n one)) 0 ys → part ≡ ys
+  put_front {ys} {part} {m} {k} l h size e =
+      let behind : drop n (xs ++ drop n old) ≡ drop n old = rw (← p.long) (drop-append_seam xs (drop (length xs) old)) in
+      let rest : m ≤ length (drop n old) = rw (length-drop n old) (omega arith) in
+      let long : length (take k (drop n one)) ≡ length ys = rw (size, p.stands, behind) (length-take-le m (drop n old) rest ∙ sym l) in
+      written_all (take k (drop n one)) long e
 
   pub put_more : {ys part : List ℕ} {m : ℕ} → length ys ≡ m → part ≡ ys → Put old (xs ++ ys) (n + m) (put_mid n m one part)
   put_more l e = put_part l e refl

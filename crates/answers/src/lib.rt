@@ -14,8 +14,23 @@ use crate::pairs::PAIRS;
 use calendar::Day;
 use ledger::{Item, Kind};
 
+// The characters of an answer's head: its number, estimated volume and n.
+const HEAD_LENGTH: usize = 12;
+
+// Those of its number.
+const NUMBER_LENGTH: usize = 2;
+
+// Those of a volume.
+const VOLUME_LENGTH: usize = 8;
+
+// Those of its amounts: net, interest posted, unpaid and credit.
+const AMOUNTS_LENGTH: usize = 48;
+
+// Those of an answer without volumes.
+const SHORTEST_LENGTH: usize = HEAD_LENGTH + AMOUNTS_LENGTH;
+
 // The longest line of `bill`: seven volumes, and its LF.
-pub const LONGEST_ANSWER: usize = 117;
+pub const LONGEST_ANSWER: usize = SHORTEST_LENGTH + 7 * VOLUME_LENGTH + 1;
 
 // A notice and its LF.
 pub const NOTICE_LENGTH: usize = 35;
@@ -37,18 +52,13 @@ pub fn put_accepted(
     ensures value { result ≡ length (answer_line (acceptance estimated volumes.now net interest unpaid credit)) }
     ensures upper_bound { result ≤ longest_answer }
 {
-    let amounts = 12 + 8 * volumes.len();
-    put_head(&mut out[..12], estimated, volumes.len());
-    put_volumes(&mut out[12..amounts], volumes);
-    put_amounts(
-        &mut out[amounts..amounts + 48],
-        net,
-        interest,
-        unpaid,
-        credit,
-    );
-    out[amounts + 48] = b'\n';
-    amounts + 49
+    let amounts = HEAD_LENGTH + VOLUME_LENGTH * volumes.len();
+    let end = amounts + AMOUNTS_LENGTH;
+    put_head(&mut out[..HEAD_LENGTH], estimated, volumes.len());
+    put_volumes(&mut out[HEAD_LENGTH..amounts], volumes);
+    put_amounts(&mut out[amounts..end], net, interest, unpaid, credit);
+    out[end] = b'\n';
+    end + 1
 }
 
 // The line of a call that is declined, at the front of `out`, and its length.
@@ -58,10 +68,10 @@ pub fn put_refusal(number: u8, out: &mut [u8]) -> usize
     ensures value { result ≡ length (answer_line (declining number)) }
     ensures upper_bound { result ≤ longest_answer }
 {
-    put_bytes::<1>(&mut out[..2], u64::from(number));
-    out[2..60].fill(b'0');
-    out[60] = b'\n';
-    61
+    put_bytes::<1>(&mut out[..NUMBER_LENGTH], u64::from(number));
+    out[NUMBER_LENGTH..SHORTEST_LENGTH].fill(b'0');
+    out[SHORTEST_LENGTH] = b'\n';
+    SHORTEST_LENGTH + 1
 }
 
 // Number 0, estimated volume and n.
@@ -114,10 +124,10 @@ fn put_bytes<const BYTES: usize>(out: &mut [u8], value: u64)
     }
 }
 
-// The line of an open item.
+// The line of an open item, at the front of `out`.
 pub fn put_notice(item: Item, out: &mut [u8])
-    requires { length out.old ≡ notice_length }
-    ensures { out.new ≡ notice_line item }
+    requires { notice_length ≤ length out.old }
+    ensures { out.new ≡ written out.old 0 (notice_line item) }
 {
     put_bytes::<1>(&mut out[..2], kind_number(item.kind));
     put_date(&mut out[2..10], item.obligation);

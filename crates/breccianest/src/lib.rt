@@ -12,8 +12,7 @@ pub fn breccianest_bill(input: &[u8], output: &mut [u8]) -> usize
     ensures output_after { output.new ≡ worked input.now output.old (bill [] input.now) }
     ensures sums { Sums [] (lines_of input.now) }
 {
-    let none = [0u16; 0];
-    text::write_bill(input, &none, output)
+    text::write_bill(input, &[], output)
 }
 
 // The same of `notice`.
@@ -21,8 +20,7 @@ pub fn breccianest_notice(input: &[u8], output: &mut [u8]) -> usize
     ensures value { result ≡ size_of input.now (notice [] input.now) }
     ensures output_after { output.new ≡ worked input.now output.old (notice [] input.now) }
 {
-    let none = [0u16; 0];
-    text::write_notice(input, &none, output)
+    text::write_notice(input, &[], output)
 }
 
 // What `bill` writes by a list of closed days. Where the list breaks its bounds, every line is answered with number 14.

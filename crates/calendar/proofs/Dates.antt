@@ -1,6 +1,9 @@
 -- Dates and their numbers: the date of a day number has that number, and the number of a date has that date. Assumes nothing.
 use Rattle.common.proofs.Words.{◌≡◌, refl, ap, ap₂, ◌∙◌, sym, Bool, true, false, cond, ℕ, zero, suc, ◌+◌, ◌-◌, ◌*◌, ◌/◌, ◌≤◌, ◌<◌, arith, ltb, take}
 use Rattle.common.proofs.Words.{ltb-true, ltb-false}
+use Rattle.common.proofs.Cases.{by_order}
+use Rattle.std.specs.Prelude.{Option, Some, None}
+use Rattle.std.specs.Option.{MatchOption, unwrap_or}
 use Rattle.lists.specs.Sum.{sum}
 use Rattle.lists.proofs.Sum.{front_rises}
 use Rattle.calendar.specs.Gregorian.{year_length, month_lengths, month_length, day_after, date_at, sum_below, days_before_year}
@@ -194,6 +197,22 @@ month_between year month day-of-year w m within low high =
 pub december : (year day-of-year : ℕ) → InCentury year → day-of-year < year_length year → days_before_month year 12 ≤ day-of-year
     → 12 ≡ (date_at (days_before_year year + day-of-year)).month
 december year day-of-year w within low = month_between year 12 day-of-year w (omega arith) within low (rw (year_end year) within)
+
+-- The first of the months before December that ends after a day is the day's month, and where there is none, December.
+pub month_found : (year day-of-year : ℕ) (found : Option ℕ) → InCentury year → day-of-year < year_length year
+    → MatchOption found ((k : ℕ) → 1 ≤ k → k < 12 → days_before_month year (k + 1) ≤ day-of-year)
+    (λ month. (1 ≤ month) × (month < 12) × (day-of-year < days_before_month year (month + 1))
+    × ((k : ℕ) → 1 ≤ k → k < month → days_before_month year (k + 1) ≤ day-of-year))
+    → unwrap_or found 12 ≡ (date_at (days_before_year year + day-of-year)).month
+month_found year day-of-year None w within none = december year day-of-year w within (none 11 (omega arith) (omega arith))
+month_found year day-of-year (Some month) w within is =
+    month_between year month day-of-year w (record { from_january = is.0; to_december = omega (arith, is.1) }) within begun is.2
+  where
+    begun : days_before_month year month ≤ day-of-year
+    begun =
+        by_order 1 month
+        (λ later. let back : month - 1 + 1 ≡ month = omega arith in rw back at (is.3 (month - 1) (omega arith) (omega (arith, is.0))))
+        (λ first. let january : month ≡ 1 = omega (arith, is.0) in rw (january, year_begins year) (omega arith))
 
 -- Two dates with one number are one date.
 number_once : {a b : Date} → Valid a → Valid b → day_number a ≡ day_number b → a ≡ b

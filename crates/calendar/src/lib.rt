@@ -7,7 +7,7 @@ ghost use Rattle.calendar.specs.Conversions.{last_number, is_date, to_date, from
 
 mod limits;
 
-use crate::limits::{FIRST_NUMBER, LAST_NUMBER};
+use crate::limits::{FIRST_NUMBER, FIRST_YEAR, LAST_NUMBER, LAST_YEAR};
 
 #[derive(Clone, Copy, PartialEq, Eq, Debug)]
 pub struct Date {
@@ -42,11 +42,15 @@ impl Day {
         if !(Day::FIRST.number..=Day::LAST.number).contains(&number) {
             return None;
         }
-        let year = year_of(number);
-        let day_of_year = number - days_before_year(year);
-        let month = month_of(year, day_of_year);
-        let day = day_of_year - days_before_month(year, month) + 1;
-        Some(Date { year, month, day })
+        let year = Year::of_day(number);
+        let day_of_year = number - year.days_before();
+        let month = year.month_of(day_of_year);
+        let day = day_of_year - year.days_before_month(month) + 1;
+        Some(Date {
+            year: year.number,
+            month,
+            day,
+        })
     }
 
     // The day of a date.
@@ -57,23 +61,13 @@ impl Day {
         if !is_date(date) {
             return None;
         }
-        let years = Day::FIRST.number + days_before_year(date.year);
-        let before = years + days_before_month(date.year, date.month);
+        let year = Year { number: date.year };
+        let years = Day::FIRST.number + year.days_before();
+        let before = years + year.days_before_month(date.month);
         Some(Day {
             number: before + (date.day - 1),
         })
     }
-}
-
-// The days from 1 January 2000 to the year's first.
-#[tactic(auto, using(crate::proofs::Years::days_before_year_lem))]
-fn days_before_year(year: u32) -> u32
-    requires le_year { 2000 ≤ year }
-    requires year_bound { year ≤ 2100 }
-    ensures { result ≡ days_before_year year }
-{
-    let years = year - 2_000;
-    years * 365 + (years + 3) / 4
 }
 
 // A date from 1 January 2000 to 31 December 2099.
@@ -81,68 +75,80 @@ fn days_before_year(year: u32) -> u32
 fn is_date(date: Date) -> bool
     ensures { result ≡ is_date date }
 {
-    (2_000..=2_099).contains(&date.year)
+    (FIRST_YEAR..=LAST_YEAR).contains(&date.year)
         && (1..=12).contains(&date.month)
-        && (1..=month_length(date.year, date.month)).contains(&date.day)
+        && (1..=Year { number: date.year }.month_length(date.month)).contains(&date.day)
 }
 
-#[tactic(auto, using(crate::proofs::Months::next_month))]
-fn month_length(year: u32, month: u32) -> u32
-    requires in_century { InCentury year }
-    requires month { IsMonth month }
-    ensures { result ≡ month_length year month }
-{
-    days_before_month(year, month + 1) - days_before_month(year, month)
+// A year from 2000 to 2099.
+#[derive(Clone, Copy)]
+struct Year {
+    number: u32,
+    ghost in_century: { InCentury number },
 }
 
-// The year that a day falls in: four years have 1,461 days, the first of them 366.
-fn year_of(number: u32) -> u32
-    requires { number ≤ last_number }
-    ensures { result ≡ (date_at number).year }
-{
-    let rest = number % 1_461;
-    let year = 2_000 + number / 1_461 * 4;
-    if rest < 366 {
-        year
-    } else {
-        year + (rest - 1) / 365
-    }
-}
-
-// The month that a day of a year falls in.
-#[tactic(auto, using(crate::proofs::Dates::month_between, crate::proofs::Dates::december, crate::proofs::Months::year_begins))]
-fn month_of(year: u32, day_of_year: u32) -> u32
-    requires in_century { InCentury year }
-    requires day_of_year_bound { day_of_year < year_length year }
-    ensures { result ≡ (date_at (days_before_year year + day_of_year)).month }
-{
-    for month in 1..12 {
-        if day_of_year < days_before_month(year, month + 1) {
-            return month;
+impl Year {
+    // The year that a day falls in: four years have 1,461 days, the first of them 366.
+    fn of_day(number: u32) -> Year
+        requires { number ≤ last_number }
+        ensures { result.number ≡ (date_at number).year }
+    {
+        let rest = number % 1_461;
+        let first = FIRST_YEAR + number / 1_461 * 4;
+        if rest < 366 {
+            return Year { number: first };
+        }
+        Year {
+            number: first + (rest - 1) / 365,
         }
     }
-    12
-}
 
-// The days from the year's first to the month's first; month 13 is the next year's first.
-#[tactic(auto, using(crate::proofs::Table::by_table))]
-fn days_before_month(year: u32, month: u32) -> u32
-    requires in_century { InCentury year }
-    requires le_month { (1 ≤ month) × (month ≤ 13) }
-    ensures { result ≡ days_before_month year month }
-{
-    let common = DAYS_BEFORE[(month - 1) as usize];
-    if month <= 2 {
-        return common;
+    // The days from 1 January 2000 to the year's first.
+    #[tactic(auto, using(crate::proofs::Years::days_before_year_lem))]
+    fn days_before(self) -> u32
+        ensures { result ≡ days_before_year self.number }
+    {
+        let years = self.number - FIRST_YEAR;
+        years * 365 + (years + 3) / 4
     }
-    if is_leap(year) { common + 1 } else { common }
-}
 
-// Every fourth of the years 2000 to 2099 is a leap year, the first of them too.
-#[tactic(auto, using(crate::proofs::Years::leap_in_century))]
-fn is_leap(year: u32) -> bool
-    requires { InCentury year }
-    ensures { result ≡ leap_year year }
-{
-    year % 4 == 0
+    // The month that a day of the year falls in.
+    fn month_of(self, day_of_year: u32) -> u32
+        requires { day_of_year < year_length self.number }
+        ensures { result ≡ (date_at (days_before_year self.number + day_of_year)).month }
+    {
+        (1..12)
+            .find(|month| day_of_year < self.days_before_month(*month + 1))
+            .unwrap_or(12)
+    }
+
+    // The days of a month.
+    #[tactic(auto, using(crate::proofs::Months::next_month))]
+    fn month_length(self, month: u32) -> u32
+        requires { IsMonth month }
+        ensures { result ≡ month_length self.number month }
+    {
+        self.days_before_month(month + 1) - self.days_before_month(month)
+    }
+
+    // The days from the year's first to the month's first; month 13 is the next year's first.
+    #[tactic(auto, using(crate::proofs::Table::by_table))]
+    fn days_before_month(self, month: u32) -> u32
+        requires { (1 ≤ month) × (month ≤ 13) }
+        ensures { result ≡ days_before_month self.number month }
+    {
+        let common = DAYS_BEFORE[(month - 1) as usize];
+        if month <= 2 {
+            return common;
+        }
+        if self.is_leap() { common + 1 } else { common }
+    }
+
+    // Every fourth of the years 2000 to 2099 is a leap year, the first of them too.
+    #[tactic(auto, using(crate::proofs::Years::leap_in_century))]
+    fn is_leap(self) -> bool
+        ensures { result ≡ leap_year self.number }
+    {
+        self.number % 4 == 0
+    }
 }

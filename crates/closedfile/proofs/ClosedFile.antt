@@ -8,7 +8,7 @@ use Rattle.common.proofs.Words.{set, take, drop, length-append, length-map, leng
 use Rattle.common.proofs.Words.{length-take-le, append_snoc, take_all, drop-cons, drop_of_length-le, eqb-true, eq-eqb, ne_eqb}
 use lib.ListN.{take-append-drop}
 use Rattle.lists.specs.{Sum.total, Every.every, Pad.pad}
-use Rattle.lists.proofs.{Every.every_behind, Every.every_fails, Pad.length_pad, Pad.pad_store, Pad.take_pad}
+use Rattle.lists.proofs.{Every.every_behind, Every.every_fails, Pad.pad_store, Pad.take_pad}
 use Rattle.common.proofs.{Cases.by_test, Cases.by_order, Tests.and_left, Tests.and_right}
 use Rattle.duedays.specs.{Limits.most_listed, DueDays.list_allowed}
 use Rattle.duedays.proofs.Lists.{allowed}
@@ -220,10 +220,6 @@ pub reads_start : {file ahead : List ℕ} → ahead ≡ file → Reads file ahea
 reads_start e = rw e (record { lines = []; are_days = refl; splits = refl; count_is = refl; days_are = refl })
 
 module _ {file ahead : List ℕ} {count : ℕ} {days : List ℕ} (r : Reads file ahead count days) where
-  pub days_long : count ≤ most_listed → length days ≡ most_listed
-  days_long few =
-      rw r.days_are (length_pad 0 most_listed (map number_of r.lines) (omega (arith, length-map r.lines number_of, r.count_is)))
-
   -- one line more
   module _ {line rest : List ℕ} (cut : Cut ahead line rest) where
     pub reads_on : {day : ℕ} → count < most_listed → Some day ≡ day_in line → Reads file rest (count + 1) (set days count day)
@@ -272,15 +268,3 @@ module _ {file ahead : List ℕ} {count : ℕ} {days : List ℕ} (r : Reads file
 
     pub held_is : record { count = count; days = days } ≡ held (days_in file)
     held_is = rw (all_read, r.days_are, length-map r.lines number_of, r.count_is)
-
--- A file's list in its array: it has its places, and is what stands from the front.
-list_few : (file : List ℕ) → length (list_in file) ≤ most_listed
-unfolding list_in
-list_few file =
-    by_test (is_formed file) (λ e. rw e (omega (arith, formed_few file e, length-map (lines_of file) number_of))) (λ e. rw e (omega arith))
-
-pub held_within : (file : List ℕ) → (held (list_in file)).count ≤ length (held (list_in file)).days
-held_within file = rw (length_pad 0 most_listed (list_in file) (list_few file)) (list_few file)
-
-pub held_front : (file : List ℕ) → take (held (list_in file)).count (held (list_in file)).days ≡ list_in file
-held_front file = take_pad 0 most_listed (list_in file)

@@ -1,8 +1,8 @@
 // The file `closed`, from its bytes to the list of closed days: specs/ClosedFile.
 #![tactic(auto)]
 
-ghost use Rattle.std.specs.Prelude.{◌≡◌};
-ghost use Rattle.closedfile.specs.ClosedFile.{broken_list, list_in, held};
+ghost use Rattle.std.specs.Prelude.{◌≡◌, Some, None, cond};
+ghost use Rattle.closedfile.specs.ClosedFile.{is_formed, days_in, broken_list, list_in, held};
 ghost use Rattle.closedfile.specs.Reading.{day_in};
 
 use duedays::is_list_allowed;
@@ -16,7 +16,7 @@ pub struct ClosedDays {
 }
 
 // No file of the form is longer: 400 lines of four digits and LF.
-pub const LONGEST_FILE: usize = 2_000;
+pub const LONGEST_FILE: usize = MOST_LISTED * (DIGITS + 1);
 
 // The digits of a day.
 const DIGITS: usize = 4;
@@ -25,23 +25,24 @@ const DIGITS: usize = 4;
 pub fn list_in(file: &[u8]) -> ClosedDays
     ensures { result ≡ held (list_in file.now) }
 {
+    days_in(file).unwrap_or_else(broken_list)
+}
+
+// The closed days of a file of the form.
+fn days_in(file: &[u8]) -> Option<ClosedDays>
+    ensures { result ≡ cond (is_formed file.now) (Some (held (days_in file.now))) None }
+{
     let mut days = [0u16; MOST_LISTED];
     let mut count: usize = 0;
     for line in file.chunks(DIGITS + 1) {
         let full = count == MOST_LISTED;
         if full {
-            return broken_list();
+            return None;
         }
-        let Some(day) = day_in(line) else {
-            return broken_list();
-        };
-        days[count] = day;
+        days[count] = day_in(line)?;
         count += 1;
     }
-    if !is_list_allowed(&days[..count]) {
-        return broken_list();
-    }
-    ClosedDays { count, days }
+    is_list_allowed(&days[..count]).then_some(ClosedDays { count, days })
 }
 
 // A list that breaks the bounds.
@@ -57,11 +58,9 @@ fn broken_list() -> ClosedDays
 fn day_in(line: &[u8]) -> Option<u16>
     ensures { result ≡ day_in line.now }
 {
-    if line.len() < DIGITS {
+    let digits = line.get(..DIGITS)?;
+    if *line.get(DIGITS).unwrap_or(&b'\n') != b'\n' {
         return None;
     }
-    if line.len() > DIGITS && line[DIGITS] != b'\n' {
-        return None;
-    }
-    Some(frames::number(&line[..DIGITS])? as u16)
+    Some(frames::number(digits)? as u16)
 }

@@ -1,2 +1,3 @@
 -- What a closing works out.
 pub mod Closing
+pub mod Once

@@ -11,7 +11,7 @@ use Rattle.std.proofs.KnownBytes.{Appends-nil, Appends-trans, Consumes-nil, Cons
 use Rattle.answers.specs.Answers.{longest_answer}
 use Rattle.lines.specs.Feeding.{fresh, Feeding, feeding, finishing}
 use Rattle.lines.specs.{declared.State.State, declared.Fed.Fed}
-use Rattle.text.specs.{Output.bill, Output.answers_of, Pieces.lines_in, Pieces.made, Pieces.Follows}
+use Rattle.text.specs.{Output.bill, Output.answers_of, Pieces.lines_in, Pieces.made, Pieces.Follows, Pieces.Behind}
 use Rattle.text.proofs.{Pieces.stands_on, Pieces.made_is, Pieces.stands_end, Pieces.follows_start, Working.Lent, Working.count_is}
 use Rattle.closedfile.specs.{declared.ClosedDays.ClosedDays, ClosedFile.longest_file, ClosedFile.list_in, ClosedFile.held}
 use Rattle.closedfile.proofs.ClosedFile.{first_bytes}
@@ -64,6 +64,9 @@ module _ {is_printing : Bool} where
 
   module _ {holidays : List ℕ} {unread rest before after : Option (List ℕ)} {s : State}
       (r : Reaches holidays is_printing unread rest before after s) where
+    abbrev pub behind_of : Behind holidays s
+    behind_of = record { seen = r.seen; follows = r.follows }
+
     -- A block more.
     pub reaches_on : (block : List ℕ) {rest' after' : Option (List ℕ)} {s' : State} → Consumes rest rest' block
         → Follows holidays (r.seen ++ block) s'

@@ -6,6 +6,7 @@ use Rattle.std.specs.Io.KnownBytes.{Appends}
 use Rattle.text.specs.Pieces.{Finished}
 use Rattle.closedfile.specs.{declared.ClosedDays.ClosedDays, ClosedFile.list_in, ClosedFile.held}
 use Rattle.lines.specs.declared.State.{State}
+use Rattle.driver.specs.declared.Feeder.{Feeder}
 
 pub record FromFile (list : ClosedDays) : Type 0 where
   pub file : List ℕ
@@ -24,3 +25,7 @@ pub record Prints (is_printing : Bool) (output grown : List ℕ) (before after :
   pub more : List ℕ
   pub grown_is : grown ≡ output ++ more
   pub appended : Appends before after (printed is_printing more)
+
+-- A feeder whose output holds something else, and that is the same in all else.
+abbrev pub with_output : {W : Type 0} → Feeder W → W → Feeder W
+with_output f holds = record f { output = record f.output { now = holds } }

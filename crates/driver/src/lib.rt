@@ -7,7 +7,7 @@ ghost use Rattle.text.specs.Output.{bill};
 ghost use Rattle.text.specs.Pieces.{Follows, AtEnd, Behind, Finished, made};
 ghost use Rattle.closedfile.specs.ClosedFile.{longest_file, list_in, held};
 ghost use Rattle.feeding.specs.Reached.{Ready};
-ghost use Rattle.driver.specs.Runs.{FromFile, Served, printed, Prints};
+ghost use Rattle.driver.specs.Runs.{FromFile, Served, printed, Prints, with_output};
 
 use answers::LONGEST_ANSWER;
 use closedfile::{ClosedDays, LONGEST_FILE, list_in};
@@ -35,6 +35,14 @@ pub struct Front {
     pub length: usize,
 }
 
+// Feeds an input by a list of closed days, and prints what that makes, or nothing.
+#[derive(Drop)]
+pub struct Feeder<'a, W> {
+    pub output: &'a mut W,
+    pub holidays: &'a [u16],
+    pub is_printing: bool,
+}
+
 // One byte more than the longest file of the form has.
 const FRONT_LENGTH: usize = LONGEST_FILE + 1;
 
@@ -50,7 +58,12 @@ pub fn serve<R: Files + Input + Print>(rt: &R, is_printing: bool) -> Result<Stat
     let count = list.count;
     let mut input = rt.reader();
     let mut output = io::writer(rt);
-    feed_input(&mut input, &mut output, &days[..count], is_printing)
+    let mut feeder = Feeder {
+        output: &mut output,
+        holidays: &days[..count],
+        is_printing,
+    };
+    feeder.feed_input(&mut input)
 }
 
 // No such file is an empty list.
@@ -59,10 +72,7 @@ fn read_closed<R: Files>(rt: &R) -> Result<ClosedDays, Failure>
 {
     match fs::open(rt, "closed") {
         Ok(mut file) => list_of(&mut file),
-        Err(e) if e.kind() == ErrorKind::NotFound => {
-            let nothing = [0u8; 0];
-            Ok(list_in(&nothing))
-        }
+        Err(e) if e.kind() == ErrorKind::NotFound => Ok(list_in(&[])),
         Err(e) => Err(Failure::Closed(e)),
     }
 }
@@ -78,6 +88,7 @@ fn list_of<F: Read>(file: &mut F) -> Result<ClosedDays, Failure>
     Ok(list_in(&bytes[..length]))
 }
 
+// The first bytes of a file, read to its end or to one byte more than a list has.
 fn read_front<F: Read>(file: &mut F) -> Result<Front, Failure>
     ensures length { IfOk result (λ front. front.length ≤ longest_file + 1) }
     ensures known { IfOk result (λ front. IfSome (F.remaining file.old)
@@ -98,88 +109,81 @@ fn read_front<F: Read>(file: &mut F) -> Result<Front, Failure>
     Ok(Front { bytes, length })
 }
 
-// Feeds all of an input, to the account that all its lines leave: no line is left half read. What is printed is what `bill` writes for it.
-// What a failed read leaves half read is not taken for a line.
-pub fn feed_input<R: Read, W: Write>(
-    input: &mut R,
-    output: &mut W,
-    holidays: &[u16],
-    is_printing: bool,
-) -> Result<State, Failure>
-    ensures finished { IfOk result (λ state. Finished holidays.now state) }
-    ensures at_end { IfOk result (λ state. IfSome (R.remaining input.old) (λ bytes. AtEnd holidays.now bytes state)) }
-    ensures billed { OnOk result (IfSome (R.remaining input.old) (λ bytes.
-        Appends (W.contents output.old) (W.contents output.new) (printed is_printing (bill holidays.now bytes)))) }
-{
-    let mut state = State::new();
-    let mut block = [0u8; BLOCK_LENGTH];
-    // a proved loop has to end, and nothing says that the input does: no run uses up these turns
-    for _ in 0..u64::MAX {
-        let count = match input.read(&mut block) {
-            Ok(count) => count,
-            Err(e) => return Err(Failure::Input(e)),
-        };
-        if count == 0 {
-            return end_input(output, state, holidays, is_printing);
+impl<W: Write> Feeder<'_, W> {
+    // Feeds all of an input, to the account that all its lines leave: no line is left half read. What is printed is what `bill` writes for it.
+    // What a failed read leaves half read is not taken for a line.
+    pub fn feed_input<R: Read>(&mut self, input: &mut R) -> Result<State, Failure>
+        ensures finished { IfOk result (λ state. Finished self.old.holidays.now state) }
+        ensures at_end { IfOk result (λ state. IfSome (R.remaining input.old) (λ bytes. AtEnd self.old.holidays.now bytes state)) }
+        ensures billed { OnOk result (IfSome (R.remaining input.old) (λ bytes.
+            Appends (W.contents self.old.output.now) (W.contents self.new.output.now)
+            (printed self.old.is_printing (bill self.old.holidays.now bytes)))) }
+        ensures same { self.new ≡ with_output self.old self.new.output.now }
+    {
+        let mut state = State::new();
+        let mut block = [0u8; BLOCK_LENGTH];
+        // a proved loop has to end, and nothing says that the input does: no run uses up these turns
+        for _ in 0..u64::MAX {
+            let count = match input.read(&mut block) {
+                Ok(count) => count,
+                Err(e) => return Err(Failure::Input(e)),
+            };
+            if count == 0 {
+                return self.end_input(state);
+            }
+            state = self.feed_block(state, &block[..count])?;
         }
-        state = feed_block(output, state, holidays, &block[..count], is_printing)?;
+        Err(Failure::Input(io::Error::other("it has no end")))
     }
-    Err(Failure::Input(io::Error::other("it has no end")))
-}
 
-// The end of the input.
-fn end_input<W: Write>(
-    output: &mut W,
-    state: State,
-    holidays: &[u16],
-    is_printing: bool,
-) -> Result<State, Failure>
-    requires { Behind holidays.now state }
-    ensures at_end { IfOk result (λ end. (b : Behind holidays.now state) → AtEnd holidays.now b.seen end) }
-    ensures prints { OnOk result ((b : Behind holidays.now state) → Prints is_printing (made holidays.now b.seen)
-        (bill holidays.now b.seen) (W.contents output.old) (W.contents output.new)) }
-{
-    let mut out = [0u8; LONGEST_ANSWER];
-    let fed = feeding::finish(state, holidays, &mut out);
-    let written = fed.written;
-    print(output, &out[..written], is_printing)?;
-    Ok(fed.state)
-}
-
-// Feeds a block from its start to its end.
-fn feed_block<W: Write>(
-    output: &mut W,
-    state: State,
-    holidays: &[u16],
-    block: &[u8],
-    is_printing: bool,
-) -> Result<State, Failure>
-    requires { Behind holidays.now state }
-    ensures ready { IfOk result (λ next. Ready holidays.now next) }
-    ensures follows { IfOk result (λ next. (b : Behind holidays.now state)
-        → Follows holidays.now (b.seen ++ block.now) next) }
-    ensures prints { OnOk result ((b : Behind holidays.now state) → Prints is_printing (made holidays.now b.seen)
-        (made holidays.now (b.seen ++ block.now)) (W.contents output.old) (W.contents output.new)) }
-{
-    let mut state = state;
-    let mut out = [0u8; BLOCK_LENGTH];
-    let mut at: usize = 0;
-    while at < block.len() {
-        let fed = feeding::feed(state, holidays, &block[at..], &mut out);
+    // The end of the input.
+    fn end_input(&mut self, state: State) -> Result<State, Failure>
+        requires { Behind self.old.holidays.now state }
+        ensures at_end { IfOk result (λ end. (b : Behind self.old.holidays.now state) → AtEnd self.old.holidays.now b.seen end) }
+        ensures prints { OnOk result ((b : Behind self.old.holidays.now state) → Prints self.old.is_printing
+            (made self.old.holidays.now b.seen) (bill self.old.holidays.now b.seen)
+            (W.contents self.old.output.now) (W.contents self.new.output.now)) }
+        ensures same { self.new ≡ with_output self.old self.new.output.now }
+    {
+        let mut out = [0u8; LONGEST_ANSWER];
+        let fed = feeding::finish(state, self.holidays, &mut out);
         let written = fed.written;
-        state = fed.state;
-        at += fed.taken;
-        print(output, &out[..written], is_printing)?;
+        self.print(&out[..written])?;
+        Ok(fed.state)
     }
-    Ok(state)
-}
 
-// Writes what is to be printed.
-fn print<W: Write>(output: &mut W, text: &[u8], is_printing: bool) -> Result<(), Failure>
-    ensures { OnOk result (Appends (W.contents output.old) (W.contents output.new) (printed is_printing text.now)) }
-{
-    if !is_printing {
-        return Ok(());
+    // Feeds a block from its start to its end.
+    fn feed_block(&mut self, state: State, block: &[u8]) -> Result<State, Failure>
+        requires { Behind self.old.holidays.now state }
+        ensures ready { IfOk result (λ next. Ready self.old.holidays.now next) }
+        ensures follows { IfOk result (λ next. (b : Behind self.old.holidays.now state)
+            → Follows self.old.holidays.now (b.seen ++ block.now) next) }
+        ensures prints { OnOk result ((b : Behind self.old.holidays.now state) → Prints self.old.is_printing
+            (made self.old.holidays.now b.seen) (made self.old.holidays.now (b.seen ++ block.now))
+            (W.contents self.old.output.now) (W.contents self.new.output.now)) }
+        ensures same { self.new ≡ with_output self.old self.new.output.now }
+    {
+        let mut state = state;
+        let mut out = [0u8; BLOCK_LENGTH];
+        let mut at: usize = 0;
+        while at < block.len() {
+            let fed = feeding::feed(state, self.holidays, &block[at..], &mut out);
+            let written = fed.written;
+            state = fed.state;
+            at += fed.taken;
+            self.print(&out[..written])?;
+        }
+        Ok(state)
     }
-    output.write_all(text).map_err(Failure::Output)
+
+    // Writes what is to be printed.
+    fn print(&mut self, text: &[u8]) -> Result<(), Failure>
+        ensures printed { OnOk result (Appends (W.contents self.old.output.now) (W.contents self.new.output.now) (printed self.old.is_printing text.now)) }
+        ensures same { self.new ≡ with_output self.old self.new.output.now }
+    {
+        if !self.is_printing {
+            return Ok(());
+        }
+        self.output.write_all(text).map_err(Failure::Output)
+    }
 }

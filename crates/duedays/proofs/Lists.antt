@@ -1,12 +1,14 @@
 -- Lists of closed days by their places. Assumes nothing.
-use Rattle.common.proofs.Words.{◌≡◌, refl, sym, true, false, ◌&&◌, and-true, or-true, List, [], ◌∷◌, ℕ, zero, suc, ◌+◌, ◌≤◌, ◌<◌}
+use Rattle.common.proofs.Words.{◌≡◌, refl, sym, Bool, true, false, ◌&&◌, or-true, List, [], ◌∷◌, ℕ, zero, suc, ◌+◌, ◌≤◌, ◌<◌}
 use Rattle.common.proofs.Words.{le_of_lt, le_of_suc-le-suc, not-suc-le-zero}
-use Rattle.common.proofs.Words.{◌∙◌, drop, get_or-take, get_or-drop}
-use Rattle.common.proofs.Words.{arith, length, get_or, take, leb, eq-eqb, ne_eqb, ltb, leb-true, ltb-true}
+use Rattle.common.proofs.Words.{◌∙◌, add-one, drop, get_or-take, get_or-drop}
+use Rattle.common.proofs.Words.{arith, length, get_or, take, leb, eq-eqb, ne_eqb, ltb, leb-true, ltb-true, ltb-false}
 use Rattle.common.proofs.Tests.{and_left, and_right}
 use Rattle.lists.specs.Every.{every}
 use Rattle.common.proofs.Cases.{by_order}
-use mathlib.Core.Bool.{and_assoc}
+use mathlib.Core.Bool.{and-false}
+use Rattle.std.specs.List.{IsAllAdjacentAnswer, Sorted.IsPartitionedBy, Sorted.IsPartitionPoint}
+use Rattle.std.proofs.lemmas.List.Sorted.{IsPartitionedBy-ltb, IsNonDecreasingBy-from_default}
 use Rattle.duedays.specs.{Limits.most_listed, Limits.last_due_day, DueDays.listed, DueDays.rising, DueDays.list_allowed, Search.FirstFrom}
 
 -- A day that stands at a place is listed, and one that stands at none is not.
@@ -39,14 +41,24 @@ rises (holiday ∷ holidays) zero (suc j) l h e = above holiday holidays j (le_o
 rises (holiday ∷ holidays) (suc i) (suc j) l h e =
     rises holidays i j (le_of_suc-le-suc l) (le_of_suc-le-suc h) (rising_behind holiday holidays e)
 
--- The test over a front of a list, with one day more.
-pub rising_next : (holidays : List ℕ) (i : ℕ) → suc i < length holidays
-    → rising (take (suc (suc i)) holidays) ≡ (rising (take (suc i) holidays) && ltb (get_or holidays i 0) (get_or holidays (suc i) 0))
-rising_next [] i h = absurd (not-suc-le-zero h)
-rising_next (holiday ∷ []) i h = absurd (not-suc-le-zero (le_of_suc-le-suc h))
-rising_next (holiday ∷ next ∷ holidays) zero h = and-true (ltb holiday next)
-rising_next (holiday ∷ next ∷ holidays) (suc i) h =
-    rw (rising_next (next ∷ holidays) i (le_of_suc-le-suc h)) (sym (and_assoc (ltb holiday next) _ _))
+-- The library's answer to whether each day is before the next.
+pub rising_answer : (holidays : List ℕ) (answer : Bool) → IsAllAdjacentAnswer (λ day next b. b ≡ ltb day next) holidays answer
+    → answer ≡ rising holidays
+rising_answer holidays true each = all_rise holidays (λ k d h. rw (add-one k) at (each k d (omega arith)))
+  where
+    all_rise : (days : List ℕ) → ((k d : ℕ) → suc k < length days → true ≡ ltb (get_or days k d) (get_or days (suc k) d)) → true ≡ rising days
+    all_rise [] each = refl
+    all_rise (day ∷ []) each = refl
+    all_rise (day ∷ next ∷ days) each =
+        rw (sym (each 0 day (omega arith))) (all_rise (next ∷ days) (λ k d h. each (suc k) d (omega arith)))
+rising_answer holidays false some = one_falls holidays some.0 (omega (arith, some.1)) (λ d. rw (add-one some.0) at (some.2 d))
+  where
+    one_falls : (days : List ℕ) (k : ℕ) → suc k < length days → ((d : ℕ) → false ≡ ltb (get_or days k d) (get_or days (suc k) d))
+        → false ≡ rising days
+    one_falls [] k h falls = absurd (omega arith)
+    one_falls (day ∷ []) k h falls = absurd (omega arith)
+    one_falls (day ∷ next ∷ days) zero h falls = rw (sym (falls day)) refl
+    one_falls (day ∷ next ∷ days) (suc k) h falls = rw (sym (one_falls (next ∷ days) k (omega arith) falls), and-false (ltb day next)) refl
 
 -- What the bounds say.
 pub record Allowed (holidays : List ℕ) : Type 0 where
@@ -63,10 +75,25 @@ allowed {holidays} e =
       in_order = λ i j l h. rises holidays i j l h (and_right (few && days) (rising holidays) e);
     }
 
--- A later place holds no earlier day.
-pub not_falling : {holidays : List ℕ} → Allowed holidays → (i j : ℕ) → i ≤ j → j < length holidays → get_or holidays i 0 ≤ get_or holidays j 0
+-- A later place holds no earlier day,
+not_falling : {holidays : List ℕ} → Allowed holidays → (i j : ℕ) → i ≤ j → j < length holidays → get_or holidays i 0 ≤ get_or holidays j 0
 not_falling {holidays} w i j l h =
     by_order i j (λ below. le_of_lt (w.in_order i j below h)) (λ same. let is : i ≡ j = omega arith in rw is (omega arith))
+
+-- so the days before one stand in front,
+pub parted : {holidays : List ℕ} → Allowed holidays → (day : ℕ) → IsPartitionedBy (λ listed. ltb listed day) holidays
+parted {holidays} w day =
+    IsPartitionedBy-ltb (λ listed. listed) holidays day (IsNonDecreasingBy-from_default (λ listed. listed) holidays 0 (not_falling w))
+
+-- and the place behind them is that of the first day that is not before it.
+pub first_from : {holidays : List ℕ} {day at : ℕ} → at ≤ length holidays
+    → IsPartitionPoint (λ listed. ltb listed day ≡ true) (λ listed. ltb listed day ≡ false) holidays at → FirstFrom holidays day at
+first_from {holidays} {day} within parts =
+    record {
+      within = within;
+      before = λ i h. ltb-true _ day (parts.0 i 0 (omega arith) h);
+      behind = λ i h long. ltb-false _ day (parts.1 i 0 h long);
+    }
 
 -- A place behind another, in a part of the list from there on.
 pub behind_place : (holidays : List ℕ) (at n i : ℕ) → i < n → get_or (take n (drop at holidays)) i 0 ≡ get_or holidays (at + i) 0

@@ -5,7 +5,6 @@ ghost use Rattle.std.specs.Prelude.{◌≡◌, true, ◌≤◌, leb, is_some, If
 ghost use Rattle.lists.specs.Every.{every};
 ghost use Rattle.duedays.specs.Limits.{last_call_day, last_due_day};
 ghost use Rattle.duedays.specs.DueDays.{rising, list_allowed, due_day};
-ghost use Rattle.duedays.specs.Search.{FirstFrom};
 
 pub mod limits;
 
@@ -37,7 +36,7 @@ impl<'a> Holidays<'a> {
         ensures { result ≡ due_day self.entry.days.now day }
     {
         let mut due = day + TERM;
-        let at = first_from(self, due);
+        let at = self.days.partition_point(|listed| *listed < due);
         for listed in &self.days[at..] {
             if *listed != due {
                 break;
@@ -53,35 +52,19 @@ impl<'a> Holidays<'a> {
 pub fn is_list_allowed(holidays: &[u16]) -> bool
     ensures { result ≡ list_allowed holidays.now }
 {
-    if holidays.len() > MOST_LISTED {
-        return false;
-    }
-    are_days(holidays) & is_rising(holidays)
+    holidays.len() <= MOST_LISTED && are_days(holidays) && is_rising(holidays)
 }
 
+// No listed day is past the calendar.
 fn are_days(holidays: &[u16]) -> bool
     ensures { result ≡ every (λ day. leb day last_due_day) holidays.now }
 {
-    let mut days = true;
-    for day in holidays {
-        days = days & (*day <= LAST_DUE_DAY);
-    }
-    days
+    holidays.iter().all(|day| *day <= LAST_DUE_DAY)
 }
 
+// Each listed day is after the one before it.
 fn is_rising(holidays: &[u16]) -> bool
     ensures { result ≡ rising holidays.now }
 {
-    let mut rises = true;
-    for pair in holidays.windows(2) {
-        rises = rises & (pair[0] < pair[1]);
-    }
-    rises
-}
-
-// The place of the first listed day that is not before a day, by halves.
-fn first_from(holidays: Holidays<'_>, day: u16) -> usize
-    ensures { FirstFrom holidays.entry.days.now day result }
-{
-    holidays.days.partition_point(|listed| *listed < day)
+    holidays.is_sorted_by(|day, next| *day < *next)
 }

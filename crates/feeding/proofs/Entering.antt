@@ -7,19 +7,19 @@ use Rattle.common.proofs.Refusals.{number_some}
 use Rattle.lists.{specs.Pad.pad, proofs.Pad.length_take_most}
 use Rattle.duedays.specs.DueDays.{list_allowed}
 use Rattle.meter.specs.{declared.Estimates.Estimates, Sharing.standing, Sharing.filled_with}
-use Rattle.ledger.specs.{declared.Entry.Entry, Limits.capacity, Posting.Standing, Posting.standing as standing_of, Posting.stored, Settling.unpaid_of}
-use Rattle.ledger.specs.{declared.Item.Item, declared.Queue.Queue, Posting.blank, Numbers.part, Numbers.ledger_of, Numbers.lying, Numbers.Lies}
+use Rattle.ledger.specs.{declared.Entry.Entry, Limits.capacity, Posting.Standing, Posting.standing as standing_of, Posting.stored}
 use Rattle.ledger.specs.Entries.{asked, number_of as number_after, Within}
-use Rattle.ledger.proofs.{Bounds.standing_stored, Queues.next_asked, Queues.next_same, Queues.gathered_is}
+use Rattle.ledger.specs.{declared.Item.Item, declared.Queue.Queue, Posting.blank, Numbers.part, Numbers.ledger_of, Numbers.lying, Numbers.Lies}
+use Rattle.ledger.proofs.{Queues.next_asked, Queues.next_same, Queues.gathered_is}
 use Rattle.intake.specs.{declared.Call.Call, declared.Head.Head, Refusals.first_refusal}
 use Rattle.intake.specs.Heads.{HeadBounds, EstimatesFit}
 use Rattle.plan.specs.Plans.{changed, Room, passed_plan, passed_volumes, planned_volumes}
 use Rattle.plan.specs.{declared.Plan.Plan, declared.Change.Change}
 use Rattle.plan.specs.declared.Change.TheVariants.{Kept, Cleared, Added}
 use Rattle.closing.specs.Closing.{stored_estimates, StandingBounds}
-use Rattle.plan.proofs.{Planning.passed_count, Planning.passed_volumes_lem, Bounds.change_room, Bounds.counted}
+use Rattle.plan.proofs.{Planning.passed_count, Planning.passed_volumes_lem, Bounds.change_room}
 use Rattle.account.specs.{declared.Account.Account, declared.Outcome.Outcome, Calls.head_of, Calls.account_of, Calls.Work}
-use Rattle.account.specs.{Outcomes.acceptance, Outcomes.accepted, Outcomes.declined, Outcomes.outcome, Whole.whole}
+use Rattle.account.specs.{Outcomes.accepted, Outcomes.declined, Outcomes.outcome, Whole.whole}
 use Rattle.account.proofs.Ready.{head_bounds, misses_most, estimates_within, whole_lying}
 use Rattle.account.proofs.Carrying.{made, goes, outcome_quiet, outcome_asked, outcome_refused, places_few}
 use Rattle.account.proofs.{Concluding.outcome_declined, Working.head_counted}
@@ -173,6 +173,6 @@ pub account_gathered : {items : List Item} {q : Queue} (h : Head) (estimates : E
 account_gathered h estimates w few = ap (account_of h estimates) (gathered_is w few)
 
 -- The parts of an account behind a line.
-pub lain_turned : {holidays : List ℕ} (o : Outcome) {h : Head} {estimates : Estimates} {s : Standing}
-    → account_in h estimates s ≡ o.account → estimates.count ≡ h.standing → Reached holidays o.account → Lain holidays h estimates s
-lain_turned o is counted reached = record { count_is = counted; reached = rw is reached }
+pub lain_turned : {holidays : List ℕ} {a : Account} {h : Head} {estimates : Estimates} {s : Standing}
+    → account_in h estimates s ≡ a → estimates.count ≡ h.standing → Reached holidays a → Lain holidays h estimates s
+lain_turned is count reached = record { count_is = count; reached = rw is reached }

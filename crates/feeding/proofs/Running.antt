@@ -18,7 +18,7 @@ use Rattle.intake.specs.declared.Call.{Call}
 use Rattle.frames.specs.Digits.{written}
 use Rattle.answers.specs.Answers.{answer_line, longest_answer}
 use Rattle.answers.proofs.Writing.{written_in_part}
-use Rattle.lines.specs.Feeding.{feeding}
+use Rattle.lines.specs.{Begun.Begun, Feeding.feeding}
 use Rattle.lines.specs.{declared.Found.Found, declared.Next.Next, declared.State.State, Line.parsed_outcome}
 use Rattle.lines.specs.Going.{state, fed_from, read_as, Finds}
 use Rattle.lines.proofs.Feeding.{Ahead, ahead_start, ahead_leads, ahead_done, ahead_text}
@@ -31,8 +31,8 @@ abbrev pub went_to : ℕ → ℕ → Went
 went_to taken place = record { taken = taken; written = place }
 
 -- A desk with this on it.
-abbrev pub desk_of : Head → Estimates → Standing → ℕ → List ℕ → Desk
-desk_of h estimates items n line = record { head = h; estimates = estimates; items = items; length = n; line = line }
+abbrev pub desk_of : Head → Estimates → Standing → Begun → Desk
+desk_of h estimates items line = record { head = h; estimates = estimates; items = items; line = line }
 
 -- What the whole piece makes of a state is what was written, with what the rest makes of the state that lies on the desk.
 pub record Running (holidays input text : List ℕ) (s : State) (d : Desk) (out : List ℕ) (w : Went) : Type 0 where
@@ -56,7 +56,7 @@ running_start holidays input text d feedable =
     }
 
 -- A line worked: what it was read as, and what comes of it.
-pub record Turned (holidays : List ℕ) (d : Desk) (next : Next) (line : List ℕ) (r : Result Worked Refusal) (after : Desk) (volumes : List ℕ)
+pub record Turned (holidays : List ℕ) (d : Desk) (next : Next) (line : Begun) (r : Result Worked Refusal) (after : Desk) (volumes : List ℕ)
     : Type 0 where
   pub read : Option Call
   pub is : read_as next ≡ Some read
@@ -64,11 +64,11 @@ pub record Turned (holidays : List ℕ) (d : Desk) (next : Next) (line : List �
   pub line_is : after.line ≡ line
   pub comes : Comes d.head d.estimates d.items (parsed_outcome holidays (account_on d) read) r after.items volumes
 
-module _ {holidays : List ℕ} (listed : list_allowed holidays ≡ true) {d : Desk} {next : Next} {line : List ℕ}
+module _ {holidays : List ℕ} (listed : list_allowed holidays ≡ true) {d : Desk} {next : Next} {line : Begun}
     {r : Result Worked Refusal} {after : Desk} {volumes : List ℕ} where
-  pub none_turned : next ≡ NoFrame → r ≡ Err NotAFrame → (h : Head) (n : ℕ) → after ≡ desk_of h d.estimates d.items n line
+  pub none_turned : next ≡ NoFrame → r ≡ Err NotAFrame → (h : Head) → after ≡ desk_of h d.estimates d.items line
       → Turned holidays d next line r after volumes
-  none_turned none refused h n same =
+  none_turned none refused h same =
       record {
         read = None;
         is = ap read_as none;
@@ -77,10 +77,10 @@ module _ {holidays : List ℕ} (listed : list_allowed holidays ≡ true) {d : De
         comes = rw (listed, refused, same) (refl, refl);
       }
 
-  pub call_turned : (frame : Frame) → next ≡ variants.Frame frame → (h : Head) (items : Standing) (n : ℕ) → after ≡ desk_of h d.estimates items n line
+  pub call_turned : (frame : Frame) → next ≡ variants.Frame frame → (h : Head) (items : Standing) → after ≡ desk_of h d.estimates items line
       → Comes d.head d.estimates d.items (outcome holidays (account_on d) (call_of frame)) r items volumes
       → Turned holidays d next line r after volumes
-  call_turned frame read h items n same comes =
+  call_turned frame read h items same comes =
       record {
         read = Some (call_of frame);
         is = ap read_as read;
@@ -105,10 +105,10 @@ module _ (before : Desk) {holidays input text : List ℕ} {d : Desk} {out : List
       }
 
   -- The next line was looked for.
-  module _ {line : List ℕ} {n : Found} (looked : Finds input w.taken (length out - w.written) d.length d.line line n) where
+  module _ {line : Begun} {n : Found} (looked : Finds input w.taken (length out - w.written) d.line line n) where
     -- It has not ended.
     pub running_waits : read_as n.next ≡ None
-        → Runs holidays input text before (desk_of d.head d.estimates d.items n.length line) out (went_to n.taken w.written)
+        → Runs holidays input text before (desk_of d.head d.estimates d.items line) out (went_to n.taken w.written)
     running_waits waits =
         let found = rw g.out_long at looked in
         let done = ahead_leads g.ahead (found.waits waits holidays (account_on d)) in
@@ -117,7 +117,7 @@ module _ (before : Desk) {holidays input text : List ℕ} {d : Desk} {out : List
           text_is = ahead_text done;
           taken_most = found.within;
           written_most = g.placed;
-          feedable = record { lain = g.feedable.lain; clear = found.clear };
+          feedable = g.feedable;
         }
 
     -- It ended, and was worked and answered.
@@ -126,7 +126,7 @@ module _ (before : Desk) {holidays input text : List ℕ} {d : Desk} {out : List
         (size : ℕ) (size_is : size ≡ length (answer_line answer)) (few : size ≤ longest_answer) where
       abbrev Goes_on : Head → Estimates → Standing → Type 0
       Goes_on h estimates items =
-          Running holidays input text (state_on before) (desk_of h estimates items n.length line)
+          Running holidays input text (state_on before) (desk_of h estimates items line)
           (put_mid w.written (length out - w.written) out part) (went_to n.taken (w.written + size))
 
       running_on : (read : Option Call) → read_as n.next ≡ Some read → (h : Head) (estimates : Estimates) (items : Standing)
@@ -139,16 +139,16 @@ module _ (before : Desk) {holidays input text : List ℕ} {d : Desk} {out : List
           let out_is = written_in_part out w.written text_of (omega (arith, room, size_is, few)) part_is in
           let o = parsed_outcome holidays (account_on d) read in
           let ends = found.ended read is in
-          let reached = reached_parsed holidays (account_on d) read g.feedable.lain.reached in
+          let reached = reached_parsed holidays (account_on d) read g.feedable.reached in
           record {
             within = found.within;
             out_long = ap length out_is ∙ length-sets out w.written text_of ∙ g.out_long;
             placed = omega (arith, few, ends.room_left, g.placed);
-            feedable = record { lain = lain_turned o account_is counted reached; clear = found.clear };
+            feedable = lain_turned account_is counted reached;
             ahead =
                 ahead_turn holidays input (length text) (state_on d) o g.ahead (ends.leads holidays (account_on d)) answer_is
                 out_is (ap (λ k. w.written + k) size_is)
-                (λ i. state (account_is i) (ends.none_begun i) (ends.blank i));
+                (λ i. state (account_is i) (ends.none_begun i));
           }
 
       -- Accepted, its estimates changed or as many as before.
@@ -170,7 +170,7 @@ module _ (before : Desk) {holidays input text : List ℕ} {d : Desk} {out : List
         pub running_kept : h.standing ≡ after.estimates.count → Goes_on h after.estimates after.items
         running_kept e =
             let count = come.counted ∙ sym (ap (λ (x : Head). x.standing) head_is) ∙ e ∙ ap (λ (x : Estimates). x.count) t.estimates_same in
-            let same = same_changed g.feedable.lain worked.plan.change count in
+            let same = same_changed g.feedable worked.plan.change count in
             running_changed (t.estimates_same ∙ sym same ∙ ap (changed worked.plan.change) (sym t.estimates_same))
 
       -- Refused.
@@ -182,4 +182,4 @@ module _ (before : Desk) {holidays input text : List ℕ} {d : Desk} {out : List
           let outcome_is = come.0 in
           rw (t.estimates_same, come.1)
           (running_on t.read t.is d.head d.estimates d.items (sym (ap (λ (x : Outcome). x.account) outcome_is))
-          g.feedable.lain.count_is (answered ∙ sym (ap (λ (x : Outcome). x.answer) outcome_is)))
+          g.feedable.count_is (answered ∙ sym (ap (λ (x : Outcome). x.answer) outcome_is)))

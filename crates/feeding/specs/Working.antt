@@ -3,14 +3,14 @@ use mathlib.Core.{Path.◌≡◌, List.List}
 use Rattle.std.specs.Prelude.{Option, Some, None, Result, Ok, Err, IfOk, ℕ, ◌≤◌, length, take}
 use Rattle.common.specs.{declared.Refusal.Refusal, Refusals.number_of, Refusals.told}
 use Rattle.meter.specs.declared.Estimates.{Estimates}
-use Rattle.ledger.specs.{Settling.unpaid_of, Posting.Standing, Posting.stored, declared.Entry.Entry}
+use Rattle.ledger.specs.{Settling.unpaid_of, Posting.Standing, Posting.standing, Posting.stored, declared.Entry.Entry}
 use Rattle.ledger.specs.Entries.{asked, number_of as number_after, next, interest_posted}
 use Rattle.intake.specs.declared.Head.{Head}
 use Rattle.plan.specs.Plans.{changed, Room}
-use Rattle.account.specs.{Calls.account_of, declared.Account.Account, declared.Answer.Answer, declared.Outcome.Outcome}
+use Rattle.account.specs.{Calls.account_of, Calls.head_of, declared.Account.Account, declared.Answer.Answer, declared.Outcome.Outcome}
 use Rattle.account.specs.{Outcomes.acceptance, Outcomes.declined}
 use Rattle.frames.specs.Digits.{written}
-use Rattle.lines.specs.{declared.State.State, Going.state, Feeding.blank_line, Feeding.feeding, Feeding.fed_of}
+use Rattle.lines.specs.{declared.State.State, Going.state, Feeding.feeding, Feeding.fed_of}
 use Rattle.feeding.specs.{declared.Desk.Desk, declared.Went.Went, declared.Worked.Worked, Reached.Reached}
 
 abbrev pub account_in : Head → Estimates → Standing → Account
@@ -26,12 +26,15 @@ abbrev pub account_on : Desk → Account
 account_on d = account_in d.head d.estimates d.items
 
 abbrev pub state_on : Desk → State
-state_on d = state (account_on d) d.length d.line
+state_on d = state (account_on d) d.line
 
--- Lines can be fed to a desk: to the parts of an account, and to a line that may have begun.
-pub record Feedable (holidays : List ℕ) (d : Desk) : Type 0 where
-  pub lain : Lain holidays d.head d.estimates d.items
-  pub clear : d.length ≡ 0 → d.line ≡ blank_line
+-- A state, its account laid out in parts.
+abbrev pub laid_out : State → Desk
+laid_out s = record { head = head_of s.account; estimates = s.account.estimates; items = standing s.account.ledger; line = s.line }
+
+-- Lines can be fed to a desk: to the parts of an account.
+abbrev pub Feedable : List ℕ → Desk → Type 0
+Feedable holidays d = Lain holidays d.head d.estimates d.items
 
 -- An entry entered: one that is refused changes nothing.
 pub record Entered (holidays : List ℕ) (entry : Entry) (before : Standing) (r : Result ℕ Refusal) (after : Standing) : Type 0 where

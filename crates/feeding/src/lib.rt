@@ -3,20 +3,22 @@
 
 ghost use Rattle.std.specs.Prelude.{◌≡◌, ◌≤◌, length, take, IfSome};
 ghost use Rattle.ledger.specs.Entries.{EntryBounds, Within};
+ghost use Rattle.ledger.specs.Posting.{OpenBounds};
 ghost use Rattle.account.specs.Outcomes.{outcome};
 ghost use Rattle.frames.specs.Digits.{written};
 ghost use Rattle.answers.specs.Answers.{answer_line, longest_answer};
 ghost use Rattle.lines.specs.Feeding.{feeding, finishing, fed_of};
 ghost use Rattle.feeding.specs.Reached.{Ready};
-ghost use Rattle.feeding.specs.Working.{account_in, answer_of, Lain, Feedable, EntersAs, Comes, Runs};
+ghost use Rattle.feeding.specs.Working.{account_in, laid_out, state_on, answer_of, Lain, Feedable, EntersAs, Comes, Runs};
 
+use closing::Billing;
 use common::Refusal;
 use duedays::Holidays;
 use intake::{Call, Head};
 use lanes::OpenItems;
 use ledger::Entry;
-use lines::{Fed, KEPT_MOST, Next, State};
-use meter::{Estimates, Meter};
+use lines::{Fed, KeptLine, Next, State};
+use meter::{Estimates, MOST_FINAL, Meter};
 use plan::Plan;
 use plan::plans::plan_with;
 
@@ -26,8 +28,34 @@ pub struct Desk {
     pub head: Head,
     pub estimates: Estimates,
     pub items: OpenItems,
-    pub length: usize,
-    pub line: [u8; KEPT_MOST],
+    pub line: KeptLine,
+}
+
+impl Desk {
+    // A state, its account laid out in parts.
+    #[inline(always)]
+    fn of(state: &State) -> Desk
+        requires { OpenBounds state.now.account.ledger }
+        ensures { result ≡ laid_out state.now }
+    {
+        Desk {
+            head: Head::from(&state.account),
+            estimates: state.account.estimates,
+            items: OpenItems::of(&state.account.ledger),
+            line: state.line,
+        }
+    }
+
+    // The state that lies on it.
+    #[inline(always)]
+    fn state(&self) -> State
+        ensures { result ≡ state_on self.now }
+    {
+        State {
+            account: account::calls::account_of(self.head, self.estimates, self.items.ledger()),
+            line: self.line,
+        }
+    }
 }
 
 // The bytes of a piece that were taken and the bytes written.
@@ -57,26 +85,10 @@ pub fn feed(state: State, holidays: &[u16], input: &[u8], out: &mut [u8]) -> Fed
     let Some(holidays) = Holidays::of(holidays) else {
         return lines::decline_lines(state, input, out);
     };
-    let account = state.account;
-    let estimates = account.estimates;
-    let line = state.line;
-    let mut desk = Desk {
-        head: account::calls::head_of(account),
-        estimates,
-        items: OpenItems::of(&account.ledger),
-        length: state.length,
-        line,
-    };
+    let mut desk = Desk::of(&state);
     let went = feed_lines(&mut desk, holidays, input, out);
-    let estimates = desk.estimates;
-    let line = desk.line;
-    let ledger = desk.items.ledger();
     Fed {
-        state: State {
-            account: account::calls::account_of(desk.head, estimates, ledger),
-            length: desk.length,
-            line,
-        },
+        state: desk.state(),
         taken: went.taken,
         written: went.written,
     }
@@ -87,15 +99,14 @@ fn feed_lines(desk: &mut Desk, holidays: Holidays<'_>, input: &[u8], out: &mut [
     requires { Feedable holidays.days.now desk.old }
     ensures { Runs holidays.entry.days.now input.now out.old desk.old desk.new out.new result }
 {
+    // a local, so that the compiler keeps it in registers
     let mut head = desk.head;
-    let mut length = desk.length;
     let mut taken: usize = 0;
     let mut written: usize = 0;
     while taken < input.len() {
-        let found = lines::next_line(input, taken, &mut desk.line, length, out.len() - written);
+        let found = lines::next_line(input, taken, &mut desk.line, out.len() - written);
         taken = found.taken;
-        length = found.length;
-        let mut volumes = [0u32; 7];
+        let mut volumes = [0u32; MOST_FINAL];
         let worked = match found.next {
             Next::Waits => break,
             Next::NoFrame => Err(Refusal::NotAFrame),
@@ -112,6 +123,7 @@ fn feed_lines(desk: &mut Desk, holidays: Holidays<'_>, input: &[u8], out: &mut [
             Ok(worked) => {
                 written += put_line(worked, &volumes, &desk.items, &mut out[written..]);
                 head = head_after(worked.plan);
+                // where their number stays, the estimates do too
                 if head.standing != desk.estimates.count {
                     desk.estimates = account::calls::changed(worked.plan.change, desk.estimates);
                 }
@@ -122,7 +134,6 @@ fn feed_lines(desk: &mut Desk, holidays: Holidays<'_>, input: &[u8], out: &mut [
         }
     }
     desk.head = head;
-    desk.length = length;
     Went { taken, written }
 }
 
@@ -134,13 +145,17 @@ fn work_call(
     items: &mut OpenItems,
     holidays: Holidays<'_>,
     call: Call,
-    volumes: &mut [u32; 7],
+    volumes: &mut [u32; MOST_FINAL],
 ) -> Result<Worked, Refusal>
     requires { Lain holidays.days.now head estimates.now items.old }
     ensures { Comes head estimates.now items.old
         (outcome holidays.entry.days.now (account_in head estimates.now items.old) call) result items.new volumes.new }
 {
-    let plan = plan_with(head, estimates.standing(), call, volumes)?;
+    let billing = Billing {
+        head,
+        standing: estimates.standing(),
+    };
+    let plan = plan_with(billing, call, volumes)?;
     let interest = enter_plan(items, holidays, plan.entry)?;
     Ok(Worked { plan, interest })
 }
@@ -179,7 +194,7 @@ fn head_after(plan: Plan) -> Head
 }
 
 // The answer of an accepted call, at the front of `out`, and its length.
-fn put_line(worked: Worked, volumes: &[u32; 7], items: &OpenItems, out: &mut [u8]) -> usize
+fn put_line(worked: Worked, volumes: &[u32; MOST_FINAL], items: &OpenItems, out: &mut [u8]) -> usize
     requires volumes_len { length (take worked.plan.count volumes.now) ≡ worked.plan.count }
     requires room { longest_answer ≤ length out.old }
     ensures out_after { out.new ≡ written out.old 0 (answer_line (answer_of worked volumes.now items.now)) }
@@ -206,13 +221,12 @@ pub fn finish(state: State, holidays: &[u16], out: &mut [u8]) -> Fed
         (finishing holidays.now (length out.old) state).output }
     ensures written_in_bounds { result.written ≤ length out.old }
 {
-    if state.length == 0 {
+    if !state.line.is_begun() {
         return Fed {
             state,
             taken: 0,
             written: 0,
         };
     }
-    let end = [10u8; 1];
-    feed(state, holidays, &end, out)
+    feed(state, holidays, b"\n", out)
 }

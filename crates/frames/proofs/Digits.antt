@@ -1,5 +1,6 @@
 -- Laws of digits. Assumes nothing.
-use Rattle.std.specs.Prelude.{Some, None}
+use Rattle.std.specs.Prelude.{Some, None, IfSome, Result, Ok, Err, OkIff}
+use Rattle.std.specs.Result.{result_ok}
 use Rattle.common.proofs.Words.{◌≡◌, refl, sym, ap, ◌∙◌, true, false, ◌&&◌, and-eq-true_iff, ◌⊎◌, inl, inr, ⊎_elim, List, [], ◌∷◌, ◌++◌, ℕ}
 use Rattle.common.proofs.Words.{zero, suc, ◌+◌, ◌-◌, ◌*◌, ◌/◌, ◌^◌, ◌≤◌, ◌<◌, add-zero, add-suc, suc-add, lt_of_lt_of_le}
 use Rattle.common.proofs.Words.{pow-suc, arith, add-one, leb, length, get_or, take, drop, length-append, take-suc}
@@ -130,6 +131,16 @@ module _ (cs : List ℕ) where
   pub number_missing : length cs ≤ 8 → no_digit ≤ read_of cs → None ≡ number_in cs
   number_missing few h =
       by_test (every is_digit cs) (λ digits. absurd (omega (arith, read_below cs 8 few digits))) (λ others. rw others refl)
+
+-- The same of what 32 bits hold of it.
+module _ (cs : List ℕ) {E : Type 0} where
+  pub number_held : (r : Result ℕ E) → OkIff r (read_of cs < no_digit) (read_of cs) → length cs ≤ 8 → result_ok r ≡ number_in cs
+  number_held (Ok n) fits few = ap Some fits.1 ∙ number_found cs fits.0
+  number_held (Err e) fits few = number_missing cs few (omega (arith, fits))
+
+  pub held_bound : (r : Result ℕ E) → OkIff r (read_of cs < no_digit) (read_of cs) → IfSome (result_ok r) (λ n. n < 16 ^ length cs)
+  held_bound (Ok n) fits = rw fits.1 (number_bound cs fits.0)
+  held_bound (Err e) fits = tt
 
 -- The length of a number in digits.
 pub length_digits : (base k n : ℕ) → length (digits base k n) ≡ k

@@ -1,7 +1,7 @@
 -- Numbers as text, in ASCII.
-use Rattle.std.specs.Prelude.{Bool, cond, ◌&&◌, ◌||◌, List, [], ◌∷◌, ◌++◌, ◌≡◌, Option, Some, None, ℕ, zero, suc, ◌+◌, ◌-◌, ◌*◌, ◌/◌, ◌%◌, ◌<◌}
+use Rattle.std.specs.Prelude.{Bool, cond, ◌&&◌, ◌||◌, List, [], ◌∷◌, ◌++◌, Option, Some, None, ℕ, zero, suc, ◌+◌, ◌-◌, ◌*◌, ◌/◌, ◌%◌}
 use Rattle.lists.specs.Every.{every}
-use lib.{Dec.leb, Dec.ltb, ListN.length, ListN.get_or, Seq.sets}
+use lib.{Dec.leb, Dec.ltb, Seq.sets}
 
 abbrev pub line_feed : ℕ
 line_feed = 10

@@ -7,7 +7,6 @@ ghost use Rattle.frames.specs.Numbers.{call_of, BeginsKind, FrameAt, KindOf};
 
 mod values;
 
-use crate::values::NO_DIGIT;
 use intake::Call;
 use tariff::Fuel;
 
@@ -124,7 +123,7 @@ pub fn number(digits: &[u8]) -> Option<u32>
     for digit in digits {
         n = n * 16 + values::value(*digit);
     }
-    if n < NO_DIGIT { Some(n as u32) } else { None }
+    u32::try_from(n).ok()
 }
 
 impl From<Frame> for Call {

@@ -12,8 +12,8 @@ pub fn value(character: u8) -> u64
     VALUES[character as usize]
 }
 
-// No number of eight digits comes to it.
-pub const NO_DIGIT: u64 = 4_294_967_296;
+// For any character that is no digit: with it, a number is more than u32 holds.
+const NO_DIGIT: u64 = 4_294_967_296;
 
 // By the character's number, eight in a row.
 const VALUES: [u64; 256] = [

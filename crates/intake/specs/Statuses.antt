@@ -1,5 +1,7 @@
 -- What a status tells: which it is, and the day that it holds.
-use Rattle.std.specs.Prelude.{Bool, true, false, ℕ}
+use Rattle.std.specs.Prelude.{Bool, true, false, ℕ, Result, Ok, Err}
+use Rattle.common.specs.declared.Refusal.{Refusal}
+use Rattle.common.specs.declared.Refusal.TheVariants as refusals
 use Rattle.intake.specs.declared.Status.TheVariants.{New, Supplied, Stopped, Cancelled}
 use Rattle.intake.specs.declared.Status.{Status}
 
@@ -39,3 +41,16 @@ stop_of New = 0
 stop_of (Supplied start) = 0
 stop_of (Stopped stop) = stop
 stop_of Cancelled = 0
+
+-- The same days where the status allows what is asked of it, and else number 1.
+abbrev pub supplied_since : Status → Result ℕ Refusal
+supplied_since New = Err refusals.Status
+supplied_since (Supplied start) = Ok start
+supplied_since (Stopped stop) = Err refusals.Status
+supplied_since Cancelled = Err refusals.Status
+
+abbrev pub stopped_on : Status → Result ℕ Refusal
+stopped_on New = Err refusals.Status
+stopped_on (Supplied start) = Err refusals.Status
+stopped_on (Stopped stop) = Ok stop
+stopped_on Cancelled = Err refusals.Status

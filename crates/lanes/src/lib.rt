@@ -15,9 +15,7 @@ use common::Refusal;
 use duedays::Holidays;
 use ledger::limits::{CAPACITY, LANE_PLACES, MOST_END};
 use ledger::numbers::{Posted, Settled, settle_numbers};
-use ledger::{
-    Coverage, Entry, Item, Kind, Ledger, Queue, interest_on, ledger_of, made_item, queue_in,
-};
+use ledger::{Coverage, Entry, Item, Kind, Ledger, Queue};
 use std::marker::Model;
 
 // The open items lie one after another among more places than a ledger has, and their queue says where. To settle items moves its front and no item.
@@ -50,7 +48,7 @@ impl OpenItems {
         places[..CAPACITY].copy_from_slice(&ledger.items);
         OpenItems {
             places,
-            queue: queue_in(ledger),
+            queue: ledger.queue(),
         }
     }
 
@@ -59,10 +57,7 @@ impl OpenItems {
         ensures { result ≡ stored self.now }
     {
         let queue = self.queue;
-        ledger_of(
-            queue,
-            gathered(&self.places[queue.front..queue.front + queue.count]),
-        )
+        queue.ledger(gathered(&self.places[queue.front..queue.end()]))
     }
 
     // What is unpaid over all of them.
@@ -87,7 +82,7 @@ impl OpenItems {
         ensures interest { IfOk result (λ interest. interest ≡ interest_posted holidays.entry.days.now entry self.old) }
     {
         let queue = self.queue;
-        let end = queue.front + queue.count;
+        let end = queue.end();
         let cover = cover(
             &self.places[queue.front..end],
             entry.day,
@@ -95,27 +90,20 @@ impl OpenItems {
         );
         let settled = settle_numbers(queue, entry, cover)?;
         let due = holidays.due_day(entry.day);
-        store(
-            &mut self.places,
-            queue.front + cover.covered,
-            end,
-            due,
-            entry.day,
-            settled,
-        );
+        store(&mut self.places, end, due, entry.day, settled);
         self.queue = make_room(&mut self.places, settled.queue);
         Ok(settled.held.sum + settled.arisen.sum)
     }
 }
 
 // Items as a ledger holds them.
-fn gathered(open: &[Item]) -> [Item; CAPACITY]
-    requires { length open.now ≤ capacity }
-    ensures { result ≡ pad capacity blank open.now }
+fn gathered(items: &[Item]) -> [Item; CAPACITY]
+    requires { length items.now ≤ capacity }
+    ensures { result ≡ pad capacity blank items.now }
 {
-    let mut items = [Item::default(); CAPACITY];
-    items[..open.len()].copy_from_slice(open);
-    items
+    let mut places = [Item::default(); CAPACITY];
+    places[..items.len()].copy_from_slice(items);
+    places
 }
 
 // As many items as money covers: 28.
@@ -123,39 +111,30 @@ fn cover(items: &[Item], day: u16, money: u64) -> Coverage
     requires { Coverable items.now day }
     ensures { result ≡ coverage day money items.now }
 {
-    let mut left = money;
-    let mut arisen: u64 = 0;
-    let mut covered: usize = 0;
+    let mut cover = Coverage {
+        covered: 0,
+        left: money,
+        arisen: 0,
+    };
     for item in items {
-        if left < item.unpaid {
+        if cover.left < item.unpaid {
             break;
         }
-        left -= item.unpaid;
-        arisen += interest_on(*item, day);
-        covered += 1;
+        cover.left -= item.unpaid;
+        cover.arisen += item.interest_on(day);
+        cover.covered += 1;
     }
-    Coverage {
-        covered,
-        left,
-        arisen,
-    }
+    cover
 }
 
 // What is settled, stored: the oldest item that stays is paid a part, and what is posted goes behind the last.
-fn store(
-    places: &mut [Item; LANE_PLACES],
-    oldest: usize,
-    end: usize,
-    due: u16,
-    day: u16,
-    settled: Settled,
-)
-    requires { Storable places.old oldest end settled }
+fn store(places: &mut [Item; LANE_PLACES], end: usize, due: u16, day: u16, settled: Settled)
+    requires { Storable places.old settled.queue.front end settled }
     ensures long { length places.new ≡ lane_places }
-    ensures lie { part oldest (with_posted settled (end - oldest)) places.new ≡
-        items_after due day settled (part oldest (end - oldest) places.old) }
+    ensures lie { part settled.queue.front (with_posted settled (end - settled.queue.front)) places.new ≡
+        items_after due day settled (part settled.queue.front (end - settled.queue.front) places.old) }
 {
-    places[oldest].unpaid -= settled.paid;
+    places[settled.queue.front].unpaid -= settled.paid;
     let second = post(places, end, due, Kind::Interest, day, settled.held);
     let third = post(places, second, due, Kind::Price, day, settled.charge);
     post(places, third, due, Kind::Interest, day, settled.arisen);
@@ -180,7 +159,13 @@ fn post(
     if amount.unpaid == 0 {
         return at;
     }
-    places[at] = made_item(due, kind, day, amount.sum, amount.unpaid);
+    places[at] = Item {
+        amount: amount.sum,
+        unpaid: amount.unpaid,
+        obligation: day,
+        due,
+        kind,
+    };
     at + 1
 }
 
@@ -191,10 +176,9 @@ fn make_room(places: &mut [Item; LANE_PLACES], queue: Queue) -> Queue
     ensures stands { lying places.new result ≡ lying places.old queue }
     ensures kept { Kept places.new result }
 {
-    let end = queue.front + queue.count;
-    if end <= MOST_END {
+    if queue.end() <= MOST_END {
         return queue;
     }
-    places.copy_within(queue.front..end, 0);
+    places.copy_within(queue.front..queue.end(), 0);
     Queue { front: 0, ..queue }
 }

@@ -121,6 +121,9 @@ module _ (k : Settling) where
   queue_of_lem : r.queue ≡ queue_of oldest (asked holidays e s)
   queue_of_lem = rw settled_is (queue_is holidays (asking k.entering) q.front)
 
+  pub front_is : r.queue.front ≡ oldest
+  front_is = ap (λ (x : Queue). x.front) queue_of_lem
+
   items_of : (asked holidays e s).open_items ≡ items_after due e.day r rest
   items_of = rw (rest_is, settled_is) (asked-known holidays (asking k.entering) q.front).items_are
 

@@ -1,7 +1,7 @@
 -- How large the numbers of a step are. Assumes nothing.
-use Rattle.common.proofs.Words.{◌≡◌, ℕ, ◌+◌, ◌-◌, ◌≤◌, arith, leb, eqb}
-use Rattle.ledger.specs.{declared.Coverage.Coverage, declared.numbers.Tally.Tally, declared.numbers.Step.Step}
-use Rattle.ledger.specs.Numbers.{posting, paying, StepMost}
+use Rattle.common.proofs.Words.{◌≡◌, ℕ, ◌+◌, ◌-◌, arith, leb, eqb}
+use Rattle.ledger.specs.{declared.Coverage.Coverage, declared.numbers.Tally.Tally}
+use Rattle.ledger.specs.Numbers.{Step, posting, paying, StepMost}
 use Rattle.common.proofs.Cases.{by_cond}
 
 pub posting_most : (t : Tally) (amount : ℕ) {r : Step} → r ≡ posting t amount → StepMost r (t.count + 1) (t.owed + amount)

@@ -7,9 +7,9 @@ use Rattle.lists.proofs.Sum.{total_append}
 use Rattle.duedays.specs.DueDays.{due_day}
 use Rattle.ledger.specs.Settling.{Settlement, reduced, settle, unpaid_of}
 use Rattle.ledger.specs.Posting.{Standing, new_item, entered, post, paid, settled_with, coverage, blank, Ready}
-use Rattle.ledger.specs.Numbers.{posting, paying, less_paid, posted}
+use Rattle.ledger.specs.Numbers.{Step, posting, paying, less_paid, posted}
 use Rattle.ledger.specs.{declared.Kind.Kind, declared.Item.Item, declared.Coverage.Coverage, declared.Entry.Entry}
-use Rattle.ledger.specs.{declared.numbers.Tally.Tally, declared.numbers.Step.Step}
+use Rattle.ledger.specs.{declared.numbers.Tally.Tally}
 use Rattle.ledger.proofs.Posting.{Owing, post_one, post_covered, post_short, post_ready, entered_owing}
 use Rattle.ledger.proofs.Cover.{all_settled, Short, not_covered, covered_most}
 use Rattle.ledger.proofs.Settling.{conserved}

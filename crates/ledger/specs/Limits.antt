@@ -30,7 +30,7 @@ most_credit = 999999999
 abbrev pub most_owed : ℕ
 most_owed = 100000000000000
 
--- Places of the lanes. An entry posts at most three items: a queue that ends by `most_end` has room for them.
+-- The places among which open items lie. An entry posts at most three items: a queue that ends by `most_end` has room for them.
 abbrev pub lane_places : ℕ
 lane_places = 256
 

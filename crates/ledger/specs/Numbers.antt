@@ -6,8 +6,13 @@ use Rattle.ledger.specs.Limits.{capacity, most_price, most_interest, most_money,
 use Rattle.ledger.specs.{declared.Kind.Kind, declared.Kind.TheVariants.Interest, declared.Kind.TheVariants.Price}
 use Rattle.ledger.specs.{declared.Item.Item, declared.Ledger.Ledger, declared.Coverage.Coverage, Settling.reduced, Settling.unpaid_of}
 use Rattle.ledger.specs.{Posting.Standing, Posting.made, Posting.standing, declared.Entry.Entry, declared.Queue.Queue}
-use Rattle.ledger.specs.{declared.numbers.Tally.Tally, declared.numbers.Step.Step, declared.numbers.Settled.Settled}
+use Rattle.ledger.specs.{declared.numbers.Tally.Tally, declared.numbers.Settled.Settled}
 use Rattle.ledger.specs.Entries.{closes, charged, limit_number}
+
+-- A tally after a step, and what is paid of the oldest that stays, or unpaid of the item posted (0: none is).
+pub record Step : Type 0 where
+  pub tally : Tally
+  pub part : ℕ
 
 -- An amount is posted: what is over is credit, used in the same call as items are posted. What it does not cover is one more open item.
 unfoldable pub posting : Tally → ℕ → Step

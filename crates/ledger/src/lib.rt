@@ -1,17 +1,17 @@
 // The ledger of an account: the queue of open items, settling, posting and late interest. Articles 20(1), 27 and 28 of the supply terms.
 #![tactic(auto)]
 
-ghost use Rattle.std.specs.Prelude.{◌≡◌, true, [], ◌≤◌};
+ghost use Rattle.std.specs.Prelude.{◌≡◌, true, [], ◌+◌, ◌≤◌};
 ghost use Rattle.ledger.specs.Interest.{is_price, body, interest_on};
 ghost use Rattle.ledger.specs.Settling.{unpaid_of};
-ghost use Rattle.ledger.specs.Posting.{made, stored, standing, charge_of, credit_of, OpenBounds, NetBounds};
-ghost use Rattle.ledger.specs.Limits.{most_price};
+ghost use Rattle.ledger.specs.Posting.{stored, standing, charge_of, credit_of, OpenBounds, NetBounds};
+ghost use Rattle.ledger.specs.Limits.{most_price, lane_places};
 ghost use Rattle.ledger.specs.Numbers.{queue_in, ledger_of};
 
 pub mod limits;
 pub mod numbers;
 
-use crate::limits::CAPACITY;
+use crate::limits::{CAPACITY, DAYS_OF_GRACE, MILLIONTHS_A_DAY};
 
 #[derive(Clone, Copy, PartialEq, Eq, Debug, Default)]
 pub enum Kind {
@@ -78,54 +78,73 @@ impl Ledger {
     }
 
     // What is unpaid over all open items.
+    #[tactic(auto, using(crate::proofs::Within::unpaid_is_sum, crate::proofs::Within::owed_most))]
     pub fn unpaid(&self) -> u64
         requires { OpenBounds self.now }
         ensures { result ≡ unpaid_of (standing self.now).open_items }
     {
-        let mut sum: u64 = 0;
-        for item in &self.items[..self.count] {
-            sum += item.unpaid;
+        self.items[..self.count]
+            .iter()
+            .map(|item| item.unpaid)
+            .sum()
+    }
+
+    // Its numbers, the items at the front.
+    pub fn queue(&self) -> Queue
+        requires { OpenBounds self.now }
+        ensures { result ≡ queue_in self.now }
+    {
+        Queue {
+            front: 0,
+            count: self.count,
+            owed: self.unpaid(),
+            held: self.held,
+            credit: self.credit,
         }
-        sum
     }
 }
 
-// The numbers of a ledger, its items at the front.
-pub fn queue_in(ledger: &Ledger) -> Queue
-    requires { OpenBounds ledger.now }
-    ensures { result ≡ queue_in ledger.now }
-{
-    Queue {
-        front: 0,
-        count: ledger.count,
-        owed: ledger.unpaid(),
-        held: ledger.held,
-        credit: ledger.credit,
+impl Queue {
+    // The place behind the last item.
+    pub fn end(self) -> usize
+        requires { self.front + self.count ≤ lane_places }
+        ensures { result ≡ self.front + self.count }
+    {
+        self.front + self.count
+    }
+
+    // Its ledger, the items gathered at the front.
+    pub fn ledger(self, items: [Item; CAPACITY]) -> Ledger
+        ensures { result ≡ ledger_of self items }
+    {
+        Ledger {
+            count: self.count,
+            items,
+            held: self.held,
+            credit: self.credit,
+        }
     }
 }
 
-// The ledger of a queue whose items are gathered at the front.
-pub fn ledger_of(queue: Queue, items: [Item; CAPACITY]) -> Ledger
-    ensures { result ≡ ledger_of queue items }
-{
-    Ledger {
-        count: queue.count,
-        items,
-        held: queue.held,
-        credit: queue.credit,
-    }
-}
-
-// An item of a day and a due day, with what is unpaid of it.
-pub fn made_item(due: u16, kind: Kind, day: u16, amount: u64, unpaid: u64) -> Item
-    ensures { result ≡ made due kind day amount unpaid }
-{
-    Item {
-        amount,
-        unpaid,
-        obligation: day,
-        due,
-        kind,
+impl Item {
+    // The interest that it brings where it is settled on a day: 27.
+    #[tactic(auto, using(crate::proofs::Interest::body_most), unfolding(crate::specs::Interest::interest_on))]
+    pub fn interest_on(self, day: u16) -> u64
+        requires { is_price self.kind ≡ true → self.amount ≤ most_price }
+        ensures { result ≡ interest_on self day }
+    {
+        let kind = self.kind;
+        match kind {
+            Kind::Interest => 0,
+            Kind::Price => {
+                let late = day.saturating_sub(self.due);
+                if late <= DAYS_OF_GRACE {
+                    0
+                } else {
+                    body_of(self.amount) * u64::from(late) * MILLIONTHS_A_DAY / 1_000_000
+                }
+            }
+        }
     }
 }
 
@@ -142,28 +161,6 @@ pub fn credit_of(net: i32) -> u64
     ensures { result ≡ credit_of net }
 {
     u64::from(net.min(0).unsigned_abs())
-}
-
-// The interest of an item that is settled on a day: 27.
-#[tactic(auto, using(crate::proofs::Interest::body_most), unfolding(crate::specs::Interest::interest_on))]
-pub fn interest_on(item: Item, day: u16) -> u64
-    requires { is_price item.kind ≡ true → item.amount ≤ most_price }
-    ensures { result ≡ interest_on item day }
-{
-    let kind = item.kind;
-    match kind {
-        Kind::Interest => 0,
-        Kind::Price => {
-            if day <= item.due {
-                return 0;
-            }
-            let late = u64::from(day - item.due);
-            if late <= 10 {
-                return 0;
-            }
-            body_of(item.amount) * late * 274 / 1_000_000
-        }
-    }
 }
 
 // The amount of a price without the tax in it: 27(2).

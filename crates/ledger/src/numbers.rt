@@ -3,7 +3,7 @@ ghost use Rattle.std.specs.Prelude.{◌≡◌, ◌+◌, ◌≤◌, ◌<◌, IfOk
 ghost use Rattle.common.specs.Refusals.{told};
 ghost use Rattle.ledger.specs.Limits.{lane_places, most_owed};
 ghost use Rattle.ledger.specs.Entries.{limit_number};
-ghost use Rattle.ledger.specs.Numbers.{posting, paying, settled_number, settled_by, NumberBounds, StepMost};
+ghost use Rattle.ledger.specs.Numbers.{posting, paying, tally_in, settled_number, settled_by, NumberBounds, StepMost};
 
 use crate::limits::{CAPACITY, MOST_CREDIT};
 use crate::{Coverage, Entry, Queue};
@@ -15,13 +15,6 @@ pub struct Tally {
     pub count: usize,
     pub owed: u64,
     pub credit: u64,
-}
-
-// A tally after a step, and what is paid of the oldest item that stays, or unpaid of the item posted (0: none is).
-#[derive(Clone, Copy, PartialEq, Eq, Debug)]
-pub struct Step {
-    pub tally: Tally,
-    pub part: u64,
 }
 
 // A sum that is posted, and what stays unpaid of it (0: no item).
@@ -49,105 +42,86 @@ pub fn settle_numbers(queue: Queue, entry: Entry, cover: Coverage) -> Result<Set
     ensures number { told result ≡ settled_number queue entry cover }
     ensures settled { IfOk result (λ settled. settled ≡ settled_by queue entry cover) }
 {
-    let tally = Tally {
-        count: queue.count,
-        owed: queue.owed,
-        credit: queue.credit,
-    };
-    let paid = pay(tally, queue.credit + entry.money, cover);
-    let held = if entry.charge.is_some() {
+    let mut tally = Tally::from(queue);
+    let paid = tally.pay(queue.credit + entry.money, cover);
+    let held_asked = if entry.charge.is_some() {
         queue.held
     } else {
         0
     };
-    let with_held = post(paid.tally, held);
-    let charge = entry.charge.unwrap_or(0);
-    let with_charge = post(with_held.tally, charge);
-    let kept = queue.held - held + cover.arisen;
-    let arisen = if entry.posts { kept } else { 0 };
-    let with_arisen = post(with_charge.tally, arisen);
-    let last = with_arisen.tally;
-    within_limits(last)?;
+    let held = tally.post(held_asked);
+    let charge = tally.post(entry.charge.unwrap_or(0));
+    let kept = queue.held - held_asked + cover.arisen;
+    let arisen = tally.post(if entry.posts { kept } else { 0 });
+    within_limits(tally)?;
     Ok(Settled {
         queue: Queue {
             front: queue.front + cover.covered,
-            count: last.count,
-            owed: last.owed,
-            held: kept - arisen,
-            credit: last.credit,
+            count: tally.count,
+            owed: tally.owed,
+            held: kept - arisen.sum,
+            credit: tally.credit,
         },
-        paid: paid.part,
-        held: Posted {
-            sum: held,
-            unpaid: with_held.part,
-        },
-        charge: Posted {
-            sum: charge,
-            unpaid: with_charge.part,
-        },
-        arisen: Posted {
-            sum: arisen,
-            unpaid: with_arisen.part,
-        },
+        paid,
+        held,
+        charge,
+        arisen,
     })
 }
 
-// Money settles the items that it covers, and pays a part of the next: 28.
-#[tactic(auto, unfolding(crate::specs::Numbers::paying))]
-fn pay(tally: Tally, money: u64, cover: Coverage) -> Step
-    requires covered_le_count { cover.covered ≤ tally.count }
-    requires money_le_owed { cover.covered < tally.count → money ≤ tally.owed }
-    ensures paid { result ≡ paying tally money cover }
-    ensures most { StepMost result tally.count tally.owed }
-{
-    let count = tally.count - cover.covered;
-    if count == 0 {
-        return Step {
-            tally: Tally {
-                count: 0,
-                owed: 0,
-                credit: cover.left,
-            },
-            part: 0,
-        };
-    }
-    Step {
-        tally: Tally {
-            count,
-            owed: tally.owed - money,
-            credit: 0,
-        },
-        part: cover.left,
+impl From<Queue> for Tally {
+    ghost from_gives = { λ queue tally. tally ≡ tally_in queue };
+
+    // The numbers of a queue that an entry changes step by step.
+    fn from(queue: Queue) -> Tally {
+        Tally {
+            count: queue.count,
+            owed: queue.owed,
+            credit: queue.credit,
+        }
     }
 }
 
-// An amount is posted: the credit covers it, or what it does not cover is one more open item.
-#[tactic(auto, unfolding(crate::specs::Numbers::posting))]
-fn post(tally: Tally, amount: u64) -> Step
-    requires count_le_lane_places { tally.count ≤ lane_places }
-    requires owed_le_most_owed { tally.owed ≤ most_owed }
-    requires amount_le_most_owed { amount ≤ most_owed }
-    ensures posted { result ≡ posting tally amount }
-    ensures most { StepMost result (tally.count + 1) (tally.owed + amount) }
-{
-    if amount <= tally.credit {
-        return Step {
-            tally: Tally {
-                count: tally.count,
-                owed: tally.owed,
-                credit: tally.credit - amount,
-            },
-            part: 0,
-        };
+impl Tally {
+    // Money settles the items that it covers, and pays a part of the oldest that stays: that part. 28.
+    #[tactic(auto, unfolding(crate::specs::Numbers::paying))]
+    fn pay(&mut self, money: u64, cover: Coverage) -> u64
+        requires covered_le_count { cover.covered ≤ self.old.count }
+        requires money_le_owed { cover.covered < self.old.count → money ≤ self.old.owed }
+        ensures tally { self.new ≡ (paying self.old money cover).tally }
+        ensures paid { result ≡ (paying self.old money cover).part }
+        ensures most { StepMost (paying self.old money cover) self.old.count self.old.owed }
+    {
+        self.count -= cover.covered;
+        if self.count == 0 {
+            self.owed = 0;
+            self.credit = cover.left;
+            return 0;
+        }
+        self.owed -= money;
+        self.credit = 0;
+        cover.left
     }
-    let part = amount - tally.credit;
-    Step {
-        tally: Tally {
-            count: tally.count + 1,
-            owed: tally.owed + part,
-            credit: 0,
-        },
-        part,
+
+    // A sum is posted: the credit covers it, or what it does not cover is one more open item.
+    #[tactic(auto, unfolding(crate::specs::Numbers::posting))]
+    fn post(&mut self, sum: u64) -> Posted
+        requires count_le_lane_places { self.old.count ≤ lane_places }
+        requires owed_le_most_owed { self.old.owed ≤ most_owed }
+        requires sum_le_most_owed { sum ≤ most_owed }
+        ensures tally { self.new ≡ (posting self.old sum).tally }
+        ensures posted { result ≡ record { sum = sum; unpaid = (posting self.old sum).part } }
+        ensures most { StepMost (posting self.old sum) (self.old.count + 1) (self.old.owed + sum) }
+    {
+        if sum <= self.credit {
+            self.credit -= sum;
+            return Posted { sum, unpaid: 0 };
+        }
+        let unpaid = sum - self.credit;
+        self.count += 1;
+        self.owed += unpaid;
+        self.credit = 0;
+        Posted { sum, unpaid }
     }
 }
 

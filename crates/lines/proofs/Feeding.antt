@@ -1,12 +1,12 @@
 -- Laws of feeding. Assumes nothing.
 use Rattle.common.proofs.Words.{◌≡◌, refl, sym, ap, ◌∙◌, Bool, true, false, List, [], ◌∷◌, ℕ, ◌+◌, ◌-◌, ◌≤◌, ◌<◌, not-suc-le-zero, zero-add}
 use Rattle.common.proofs.Words.{add-zero, arith, add-one, eqb, length, set, length-append, eq-eqb, ne_eqb, lt-ltb, le-ltb}
-use Rattle.account.specs.declared.Account.{Account}
 use Rattle.frames.specs.Digits.{written, line_feed}
 use Rattle.answers.specs.Answers.{answer_line, longest_answer}
 use Rattle.answers.proofs.Writing.{written_behind}
-use Rattle.lines.specs.Feeding.{kept_most, kept, line_ends, ended, Feeding, nothing, behind, feeding, finishing, fed_of}
-use Rattle.lines.specs.{declared.State.State, Going.state, Going.Leads, Going.writing}
+use Rattle.lines.specs.Begun.{Begun, kept_most, keeping}
+use Rattle.lines.specs.Feeding.{kept, line_ends, ended, Feeding, nothing, behind, feeding, finishing, fed_of}
+use Rattle.lines.specs.{declared.State.State, Going.Leads, Going.writing}
 
 -- Of the input's next byte, the three ways.
 module _ (holidays : List ℕ) (room : ℕ) (s : State) (c : ℕ) (cs : List ℕ) where
@@ -25,12 +25,9 @@ module _ (holidays : List ℕ) (room : ℕ) (s : State) (c : ℕ) (cs : List ℕ
   feed_keeps n = rw (ne_eqb c line_feed n) refl
 
 -- A character is kept where there is room for it.
-module _ (a : Account) (n : ℕ) (line : List ℕ) (c : ℕ) where
-  pub kept_within : n < kept_most → kept (state a n line) c ≡ state a (n + 1) (set line n c)
-  kept_within h = rw (lt-ltb n kept_most h, add-one n) refl
-
-  pub kept_full : kept_most ≤ n → kept (state a n line) c ≡ state a n line
-  kept_full h = rw (le-ltb n kept_most h) refl
+pub kept_within : (b : Begun) (c : ℕ) → b.length < kept_most
+    → keeping b c ≡ record { length = b.length + 1; characters = set b.characters b.length c }
+kept_within b c h = rw (lt-ltb b.length kept_most h, add-one b.length) refl
 
 -- A feeding under way: the whole is what is done, with what the rest makes behind it.
 pub record Ahead (whole : Feeding) (text : List ℕ) (taken place : ℕ) (rest : Feeding) (out : List ℕ) : Type 0 where
@@ -79,14 +76,14 @@ module _ {whole : Feeding} {text : List ℕ} {taken place : ℕ} {out : List ℕ
     ahead_text = sym a.same_text
 
 -- At the end of the input.
-pub finish_none : (holidays : List ℕ) (room : ℕ) (s : State) → s.length ≡ 0 → finishing holidays room s ≡ nothing s
+pub finish_none : (holidays : List ℕ) (room : ℕ) (s : State) → s.line.length ≡ 0 → finishing holidays room s ≡ nothing s
 unfolding finishing
-finish_none holidays room s e = rw (eq-eqb s.length 0 e) refl
+finish_none holidays room s e = rw (eq-eqb s.line.length 0 e) refl
 
-pub finish_line : (holidays : List ℕ) (room : ℕ) (s : State) → (s.length ≡ 0 → ⊥)
+pub finish_line : (holidays : List ℕ) (room : ℕ) (s : State) → (s.line.length ≡ 0 → ⊥)
     → finishing holidays room s ≡ feeding holidays room s (line_feed ∷ [])
 unfolding finishing
-finish_line holidays room s n = rw (ne_eqb s.length 0 n) refl
+finish_line holidays room s n = rw (ne_eqb s.line.length 0 n) refl
 
 -- Where there is room for a line, feeding goes on.
 pub taken_some : (holidays : List ℕ) (room : ℕ) (s : State) (bytes : List ℕ) → longest_answer ≤ room → 1 ≤ length bytes

@@ -3,13 +3,13 @@ use Rattle.std.specs.Prelude.{Option, Some, None}
 use Rattle.common.proofs.Words.{◌≡◌, refl, sym, ◌⊎◌, inl, inr, ap, ◌∙◌, true, List, [], ◌∷◌, ◌++◌, ℕ, zero, suc, ◌+◌}
 use Rattle.common.proofs.Words.{◌-◌, ◌≤◌, ◌<◌, add-zero, add-suc, arith, add-one, leb, length, get_or, set, take, drop, length-set}
 use Rattle.common.proofs.Words.{length-drop, length-take, drop_of_length-le, drop-cons, take-suc, take-suc-set, get_or-drop, get_or-set_same, leb-true}
-use Rattle.common.proofs.Words.{leb-false}
+use Rattle.common.proofs.Words.{leb-false, eqb, eqb-true, eqb-false}
+use Rattle.std.specs.{Bool.then_some, Option.option_map}
 use Rattle.std.proofs.lemmas.Option.{same_Some}
 use Rattle.std.specs.List.{between as part}
 use Rattle.std.proofs.lemmas.{List.take-set, Slice.between_to_end}
-use Rattle.common.proofs.Cases.{by_test, by_order}
+use Rattle.common.proofs.Cases.{by_test}
 use Rattle.lists.proofs.Every.{every_true, every_in_front}
-use Rattle.account.specs.Calls.{new_account}
 use Rattle.account.specs.{declared.Account.Account, declared.Answer.Answer, declared.Outcome.Outcome}
 use Rattle.intake.specs.declared.Call.{Call}
 use Rattle.frames.specs.Numbers.{call_of, Begins, FrameAt}
@@ -17,12 +17,13 @@ use Rattle.frames.specs.declared.Frame.{Frame}
 use Rattle.frames.specs.{Digits.is_digit, Digits.line_feed, Digits.written, Layout.longest_frame, Frames.parsed}
 use Rattle.frames.proofs.{Frames.too_long, Numbers.call_digits, Numbers.begins_once, Numbers.digit_no_end}
 use Rattle.answers.specs.Answers.{answer_line, longest_answer}
-use Rattle.lines.specs.Feeding.{kept_most, blank_line, between, line_of, kept, Feeding, nothing, behind, feeding}
+use Rattle.lines.specs.Begun.{Begun, kept_most, blank_line, none_begun, keeping}
+use Rattle.lines.specs.Feeding.{between, line_of, kept, Feeding, nothing, behind, feeding}
 use Rattle.lines.specs.Going.{state, Leads, fed_from, fed_behind, Keeps, read_as, Finds, found_at}
 use Rattle.lines.specs.declared.Next.{Next}
 use Rattle.lines.specs.declared.Next.TheVariants as variants
-use Rattle.lines.specs.{declared.Kept.Kept, declared.State.State, Line.parsed_outcome}
-use Rattle.lines.proofs.Feeding.{feed_ends, feed_stops, feed_keeps, kept_within, kept_full, Ahead, ahead_leads, ahead_put}
+use Rattle.lines.specs.{declared.State.State, Line.parsed_outcome}
+use Rattle.lines.proofs.Feeding.{feed_ends, feed_stops, feed_keeps, kept_within, Ahead, ahead_leads, ahead_put}
 
 leads_nowhere : {from : ℕ} {f : Feeding} → Leads from from f f
 leads_nowhere = record { same_state = refl; same_output = refl; same_taken = refl }
@@ -66,40 +67,27 @@ module _ (holidays input : List ℕ) (at room : ℕ) (s : State) where
     line_waits e r = rw (next_byte ∙ feed_stops holidays room s byte (drop (suc at) input) e r) leads_nowhere
 
 -- A line kept so far: what the input makes from the line's start on is what it makes from `taken` on, of the characters kept.
-pub record Keeping (input : List ℕ) (from begun : ℕ) (line₀ : List ℕ) (taken n : ℕ) (line : List ℕ) : Type 0 where
+pub record Keeping (input : List ℕ) (from : ℕ) (line₀ : Begun) (taken : ℕ) (line : Begun) : Type 0 where
   pub onward : from ≤ taken
   pub within : taken ≤ length input
-  pub none : n ≡ 0 → (begun ≡ 0) × (line ≡ line₀)
   pub leads : (holidays : List ℕ) (a : Account) (room : ℕ)
-      → Leads from taken (fed_from holidays input from room (state a begun line₀)) (fed_from holidays input taken room (state a n line))
+      → Leads from taken (fed_from holidays input from room (state a line₀)) (fed_from holidays input taken room (state a line))
 
-pub keeping_start : {input : List ℕ} {from begun : ℕ} {line₀ : List ℕ} → from ≤ length input → Keeping input from begun line₀ from begun line₀
-keeping_start within = record { onward = omega arith; within = within; none = λ z. (z, refl); leads = λ holidays a room. leads_nowhere }
+pub keeping_start : {input : List ℕ} {from : ℕ} {line₀ : Begun} → from ≤ length input → Keeping input from line₀ from line₀
+keeping_start within = record { onward = omega arith; within = within; leads = λ holidays a room. leads_nowhere }
 
--- What keeping a character makes of those kept.
-abbrev Kept_on : ℕ → List ℕ → ℕ → ℕ → List ℕ → Type 0
-Kept_on n line c n' line' = (a : Account) → state a n' line' ≡ kept (state a n line) c
-
-kept_same : (n : ℕ) (line : List ℕ) (c : ℕ) {n' : ℕ} {line' : List ℕ} → Kept_on n line c n' line' → n' ≡ 0 → (n ≡ 0) × (line' ≡ line)
-kept_same n line c k z =
-    by_order n kept_most
-    (λ few. absurd (let some = ap (λ (s : State). s.length) (k new_account ∙ kept_within new_account n line c few) in omega arith))
-    (λ full. absurd (let some = ap (λ (s : State). s.length) (k new_account ∙ kept_full new_account n line c full) in omega arith))
-
-module _ {input : List ℕ} {from begun : ℕ} {line₀ : List ℕ} {taken n : ℕ} {line : List ℕ}
-    (k : Keeping input from begun line₀ taken n line) where
+module _ {input : List ℕ} {from : ℕ} {line₀ : Begun} {taken : ℕ} {line : Begun} (k : Keeping input from line₀ taken line) where
   abbrev byte_at : ℕ
   byte_at = get_or input taken 0
 
-  pub keeping_on : taken < length input → (byte_at ≡ line_feed → ⊥) → {n' : ℕ} {line' : List ℕ} → Kept_on n line byte_at n' line'
-      → Keeping input from begun line₀ (taken + 1) n' line'
+  pub keeping_on : taken < length input → (byte_at ≡ line_feed → ⊥) → {line' : Begun} → line' ≡ keeping line byte_at
+      → Keeping input from line₀ (taken + 1) line'
   keeping_on more other on =
       record {
         onward = omega (arith, k.onward);
         within = omega arith;
-        none = λ z. let same = kept_same n line byte_at on z in ((k.none same.0).0, same.1 ∙ (k.none same.0).1);
         leads = λ holidays a room.
-            leads_on (k.leads holidays a room) (byte_kept holidays input taken room (state a n line) more other (sym (on a)));
+            leads_on (k.leads holidays a room) (byte_kept holidays input taken room (state a line) more other (ap (state a) (sym on)));
       }
 
 -- The characters of an input behind a place.
@@ -142,15 +130,27 @@ module _ (line : List ℕ) (n : ℕ) where
   pub kept_no_frame : length line ≡ kept_most → n < kept_most → FrameAt with_end None → None ≡ parsed (take n line)
   kept_no_frame long few none = kept_none long few (λ call b. none call n b)
 
-  pub kept_other : length line ≡ kept_most → n < kept_most → {call : Call} {width : ℕ} → Begins with_end call width → (width ≡ n → ⊥)
+  kept_other : length line ≡ kept_most → n < kept_most → {call : Call} {width : ℕ} → Begins with_end call width → (width ≡ n → ⊥)
       → None ≡ parsed (take n line)
   kept_other long few found other = kept_none long few (λ call b. other (begins_once found b))
+
+  kept_frame : {call : Call} {width : ℕ} → Begins with_end call width → width ≡ n → Some call ≡ parsed (take n line)
+  kept_frame {call} found same =
+      let whole : parsed (take n with_end) ≡ Some call = rw same at found.frame in
+      sym (rw (take-set line n line_feed) at whole)
+
+  pub kept_read : length line ≡ kept_most → n < kept_most → (frame : Frame) {width : ℕ} → Begins with_end (call_of frame) width
+      → option_map call_of (then_some (eqb width n) frame) ≡ parsed (take n line)
+  kept_read long few frame {width} found =
+      by_test (eqb width n)
+      (λ e. rw e (kept_frame found (eqb-true width n e)))
+      (λ e. rw e (kept_other long few found (eqb-false width n e)))
 
 -- The front of a frame that lies in an input, kept.
 record Front (input : List ℕ) (at k : ℕ) : Type 0 where
   line : List ℕ
   long : length line ≡ kept_most
-  keeping : Keeping input at 0 blank_line (at + k) k line
+  keeping : Keeping input at none_begun (at + k) (record { length = k; characters = line })
   same : take k line ≡ take k (drop at input)
 
 module _ (input : List ℕ) (at : ℕ) {call : Call} {width : ℕ} (b : Begins (drop at input) call width) where
@@ -176,7 +176,7 @@ module _ (input : List ℕ) (at : ℕ) {call : Call} {width : ℕ} (b : Begins (
         long = length-set f.line k next ∙ f.long;
         keeping =
             rw (add-suc at k, ← add-one (at + k), ← add-one k)
-            (keeping_on f.keeping more (digit_no_end next (rw is at (digit k h))) (λ a. sym (kept_within a k f.line next few)));
+            (keeping_on f.keeping more (digit_no_end next (rw is at (digit k h))) (sym (kept_within _ next few)));
         same =
             take-suc-set f.line k next (omega (arith, f.long)) ∙ ap (λ xs. xs ++ (next ∷ [])) f.same ∙
             sym (take-suc rest k 0 (omega (arith, b.room, b.within)) ∙ ap (λ c. take k rest ++ (c ∷ [])) is);
@@ -199,74 +199,72 @@ module _ (input : List ℕ) (at : ℕ) {call : Call} {width : ℕ} (b : Begins (
   frame_taken room holidays a left =
       let f = front_kept width (omega arith) in
       leads_on (f.keeping.leads holidays a room)
-      (line_ends_lem holidays input (at + width) room (state a width f.line) (omega (arith, inside, b.within))
+      (line_ends_lem holidays input (at + width) room (state a (record { length = width; characters = f.line })) (omega (arith, inside, b.within))
       (sym (get_or-drop at input width 0) ∙ b.ends) left (ap parsed f.same ∙ b.frame))
 
 -- A line that ended leaves none begun, and no trace.
-found_ended : {input : List ℕ} {from room begun taken : ℕ} {line after : List ℕ} {next : Next} {call : Option Call}
-    → after ≡ blank_line → taken ≤ length input → from < taken → longest_answer ≤ room → read_as next ≡ Some call
+found_ended : {input : List ℕ} {from room taken : ℕ} {line after : Begun} {next : Next} {call : Option Call}
+    → after ≡ none_begun → taken ≤ length input → from < taken → longest_answer ≤ room → read_as next ≡ Some call
     → ((holidays : List ℕ) (a : Account)
-    → Leads from taken (fed_from holidays input from room (state a begun line))
+    → Leads from taken (fed_from holidays input from room (state a line))
     (fed_behind holidays input taken room (parsed_outcome holidays a call)))
-    → Finds input from room begun line after (found_at next taken 0)
-found_ended blank within onward left is leads =
+    → Finds input from room line after (found_at next taken)
+found_ended none within onward left is leads =
     record {
       within = within;
-      ended = λ read e.
-          let same = same_Some _ _ (sym is ∙ e) in
-          record { room_left = left; onward = onward; none_begun = refl; blank = blank; leads = rw same at leads };
+      ended = λ read e. let same = same_Some _ _ (sym is ∙ e) in record { room_left = left; onward = onward; none_begun = none; leads = rw same at leads };
       waits = λ e. absurd (cc);
-      clear = λ z. blank;
     }
 
+-- A line that does not wait is read as something.
+pub by_read : {P : Type 0} (next : Next) → (next ≡ variants.Waits → ⊥) → ((read : Option Call) → read_as next ≡ Some read → P) → P
+by_read variants.Waits ends reads = absurd (ends refl)
+by_read variants.NoFrame ends reads = reads None refl
+by_read (variants.Frame frame) ends reads = reads (Some (call_of frame)) refl
+
 -- The next line, by what came of its characters: the input ended, or the room did; its end came; or it is a frame that lies there whole.
-module _ {input : List ℕ} {from begun : ℕ} {line kept : List ℕ} {r : Kept} (k : Keeps input from begun line kept r) (room : ℕ) where
-  abbrev stands : Account → State
-  stands a = state a r.length kept
+module _ {input : List ℕ} {from : ℕ} {line kept : Begun} {taken : ℕ} (k : Keeps input from line kept taken) (room : ℕ) where
+  found_waiting : ((holidays : List ℕ) (a : Account)
+      → Leads taken taken (fed_from holidays input taken room (state a kept)) (nothing (state a kept)))
+      → Finds input from room line kept (found_at variants.Waits taken)
+  found_waiting stops =
+      record {
+        within = k.within;
+        ended = λ read e. absurd (cc);
+        waits = λ e holidays a. leads_on (k.leads holidays a room) (stops holidays a);
+      }
 
-  module _ (clear : begun ≡ 0 → line ≡ blank_line) where
-    found_waiting : ((holidays : List ℕ) (a : Account)
-        → Leads r.taken r.taken (fed_from holidays input r.taken room (stands a)) (nothing (stands a)))
-        → Finds input from room begun line kept (found_at variants.Waits r.taken r.length)
-    found_waiting stops =
-        record {
-          within = k.within;
-          ended = λ read e. absurd (cc);
-          waits = λ e holidays a. leads_on (k.leads holidays a room) (stops holidays a);
-          clear = λ z. (k.none z).1 ∙ clear (k.none z).0;
-        }
+  pub found_no_end : length input ≤ taken → Finds input from room line kept (found_at variants.Waits taken)
+  found_no_end none = found_waiting (λ holidays a. input_ended holidays input taken room (state a kept) none)
 
-    pub found_no_end : length input ≤ r.taken → Finds input from room begun line kept (found_at variants.Waits r.taken r.length)
-    found_no_end none = found_waiting (λ holidays a. input_ended holidays input r.taken room (stands a) none)
+  pub found_no_room : taken < length input → room < longest_answer → Finds input from room line kept (found_at variants.Waits taken)
+  found_no_room more short = found_waiting (λ holidays a. line_waits holidays input taken room (state a kept) more (k.ends more) short)
 
-    pub found_no_room : r.taken < length input → room < longest_answer
-        → Finds input from room begun line kept (found_at variants.Waits r.taken r.length)
-    found_no_room more short = found_waiting (λ holidays a. line_waits holidays input r.taken room (stands a) more (k.ends more) short)
+  pub found_waits : (taken ≡ length input) ⊎ ((taken ≡ length input → ⊥) × (room < longest_answer))
+      → Finds input from room line kept (found_at variants.Waits taken)
+  found_waits (inl none) = found_no_end (omega arith)
+  found_waits (inr more) = found_no_room (omega (arith, k.within, more.0)) more.1
 
-    pub found_waits : (r.taken ≡ length input) ⊎ ((r.taken ≡ length input → ⊥) × (room < longest_answer))
-        → Finds input from room begun line kept (found_at variants.Waits r.taken r.length)
-    found_waits (inl none) = found_no_end (omega arith)
-    found_waits (inr more) = found_no_room (omega (arith, k.within, more.0)) more.1
-
-  pub kept_ends : r.taken < length input → longest_answer ≤ room → (holidays : List ℕ) (a : Account) {p : Option Call}
-      → parsed (take r.length kept) ≡ p
-      → Leads from (r.taken + 1) (fed_from holidays input from room (state a begun line))
-      (fed_behind holidays input (r.taken + 1) room (parsed_outcome holidays a p))
+  kept_ends : taken < length input → longest_answer ≤ room → (holidays : List ℕ) (a : Account) {p : Option Call}
+      → parsed (take kept.length kept.characters) ≡ p
+      → Leads from (taken + 1) (fed_from holidays input from room (state a line))
+      (fed_behind holidays input (taken + 1) room (parsed_outcome holidays a p))
   kept_ends more left holidays a is =
-      leads_on (k.leads holidays a room) (line_ends_lem holidays input r.taken room (stands a) more (k.ends more) left is)
+      leads_on (k.leads holidays a room) (line_ends_lem holidays input taken room (state a kept) more (k.ends more) left is)
 
-  pub found_kept : r.taken < length input → longest_answer ≤ room → {next : Next} → read_as next ≡ Some (parsed (take r.length kept))
-      → {after : List ℕ} → after ≡ blank_line → Finds input from room begun line after (found_at next (r.taken + 1) 0)
-  found_kept more left read blank =
-      found_ended blank (omega arith) (omega (arith, k.onward)) left read (λ holidays a. kept_ends more left holidays a refl)
+  pub found_kept : taken < length input → longest_answer ≤ room
+      → {next : Next} → read_as next ≡ Some (parsed (take kept.length kept.characters))
+      → {after : Begun} → after ≡ none_begun → Finds input from room line after (found_at next (taken + 1))
+  found_kept more left read none =
+      found_ended none (omega arith) (omega (arith, k.onward)) left read (λ holidays a. kept_ends more left holidays a refl)
 
-pub found_frame : {input : List ℕ} {from room begun width : ℕ} {line : List ℕ} {frame : Frame}
-    → begun ≡ 0 → line ≡ blank_line → Begins (part from (length input) input) (call_of frame) width → longest_answer ≤ room
-    → Finds input from room begun line line (found_at (variants.Frame frame) (from + width + 1) 0)
-found_frame {input} {from} {room} none blank begins left =
+pub found_frame : {input : List ℕ} {from room width : ℕ} {line : Begun} {frame : Frame}
+    → line ≡ none_begun → Begins (part from (length input) input) (call_of frame) width → longest_answer ≤ room
+    → Finds input from room line line (found_at (variants.Frame frame) (from + width + 1))
+found_frame {input} {from} {room} none begins left =
     let b = rw (between_to_end input from (length input) (omega arith)) at begins in
-    found_ended blank (omega (arith, b.within, b.room, length-drop from input)) (omega arith) left refl
-    (λ holidays a. rw (none, blank) (frame_taken input from b room holidays a left))
+    found_ended none (omega (arith, b.within, b.room, length-drop from input)) (omega arith) left refl
+    (λ holidays a. rw none (frame_taken input from b room holidays a left))
 
 -- A feeding under way goes on behind a line whose answer was written.
 pub ahead_turn : (holidays input : List ℕ) (size : ℕ) (s : State) (o : Outcome)

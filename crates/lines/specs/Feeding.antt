@@ -1,30 +1,23 @@
 -- An input that comes in pieces: what is kept between them, and what a piece makes of it.
-use Rattle.std.specs.Prelude.{List, [], ◌∷◌, ◌++◌, cond, ℕ, suc, ◌-◌, length, set, take, replicate, eqb, ltb}
+use Rattle.std.specs.Prelude.{List, [], ◌∷◌, ◌++◌, cond, ℕ, suc, ◌-◌, length, take, eqb, ltb}
 use Rattle.account.specs.{declared.Account.Account, declared.Outcome.Outcome, Calls.new_account}
 use Rattle.frames.specs.Digits.{line_feed}
 use Rattle.answers.specs.Answers.{answer_line, longest_answer}
-use Rattle.lines.specs.{declared.State.State, declared.Fed.Fed, Line.line_outcome}
-
--- One character more than the longest frame is kept of a line, enough to know that it is none.
-abbrev pub kept_most : ℕ
-kept_most = 31
-
-abbrev pub blank_line : List ℕ
-blank_line = replicate kept_most 0
+use Rattle.lines.specs.{declared.State.State, declared.Fed.Fed, Line.line_outcome, Begun.none_begun, Begun.keeping}
 
 -- No line has begun.
 abbrev pub between : Account → State
-between a = record { account = a; length = 0; line = blank_line }
+between a = record { account = a; line = none_begun }
 
 abbrev pub fresh : State
 fresh = between new_account
 
 -- The part of a line that came.
 abbrev pub line_of : State → List ℕ
-line_of s = take s.length s.line
+line_of s = take s.line.length s.line.characters
 
 abbrev pub kept : State → ℕ → State
-kept s c = cond (ltb s.length kept_most) (record { account = s.account; length = suc s.length; line = set s.line s.length c }) s
+kept s c = record { account = s.account; line = keeping s.line c }
 
 abbrev pub line_ends : List ℕ → State → Outcome
 line_ends holidays s = line_outcome holidays s.account (line_of s)
@@ -60,4 +53,4 @@ fed_of f = record { state = f.state; taken = f.taken; written = length f.output 
 
 -- The end of the input ends a line that has begun, as an LF would.
 unfoldable pub finishing : List ℕ → ℕ → State → Feeding
-finishing holidays room s = cond (eqb s.length 0) (nothing s) (feeding holidays room s (line_feed ∷ []))
+finishing holidays room s = cond (eqb s.line.length 0) (nothing s) (feeding holidays room s (line_feed ∷ []))

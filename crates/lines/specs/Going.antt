@@ -6,12 +6,13 @@ use Rattle.intake.specs.declared.Call.{Call}
 use Rattle.frames.specs.Numbers.{call_of}
 use Rattle.frames.specs.Digits.{line_feed, written}
 use Rattle.answers.specs.Answers.{answer_line, longest_answer}
-use Rattle.lines.specs.Feeding.{blank_line, between, Feeding, nothing, feeding, fed_of}
-use Rattle.lines.specs.{declared.State.State, declared.Fed.Fed, declared.Kept.Kept, declared.Next.Next, declared.Found.Found, Line.parsed_outcome}
+use Rattle.lines.specs.Feeding.{between, Feeding, nothing, feeding, fed_of}
+use Rattle.lines.specs.{declared.State.State, declared.Fed.Fed, declared.Next.Next, declared.Found.Found, Line.parsed_outcome}
+use Rattle.lines.specs.Begun.{Begun, none_begun}
 use Rattle.lines.specs.declared.Next.TheVariants.{Waits, NoFrame, Frame}
 
-abbrev pub state : Account → ℕ → List ℕ → State
-state account long line = record { account = account; length = long; line = line }
+abbrev pub state : Account → Begun → State
+state account line = record { account = account; line = line }
 
 -- The bytes between two places do no more than lead from what is made before them to what is made behind them.
 pub record Leads (from taken : ℕ) (before behind : Feeding) : Type 0 where
@@ -32,20 +33,13 @@ abbrev pub fed_behind : List ℕ → List ℕ → ℕ → ℕ → Outcome → Fe
 fed_behind holidays input taken room o =
     writing (answer_line o.answer) (fed_from holidays input taken (room - length (answer_line o.answer)) (between o.account))
 
--- What the next line is looked for with: an input that goes on, and a line kept so far that is blank where none has begun.
-pub record Seeking (input : List ℕ) (from : ℕ) (line : List ℕ) (begun : ℕ) : Type 0 where
-  pub more : from < length input
-  pub blank : begun ≡ 0 → line ≡ blank_line
-
 -- Where a line's characters end.
-pub record Keeps (input : List ℕ) (from begun : ℕ) (line kept : List ℕ) (r : Kept) : Type 0 where
-  pub onward : from ≤ r.taken
-  pub within : r.taken ≤ length input
-  pub ends : r.taken < length input → get_or input r.taken 0 ≡ line_feed
-  pub none : r.length ≡ 0 → (begun ≡ 0) × (kept ≡ line)
+pub record Keeps (input : List ℕ) (from : ℕ) (line kept : Begun) (taken : ℕ) : Type 0 where
+  pub onward : from ≤ taken
+  pub within : taken ≤ length input
+  pub ends : taken < length input → get_or input taken 0 ≡ line_feed
   pub leads : (holidays : List ℕ) (a : Account) (room : ℕ)
-      → Leads from r.taken (fed_from holidays input from room (state a begun line))
-      (fed_from holidays input r.taken room (state a r.length kept))
+      → Leads from taken (fed_from holidays input from room (state a line)) (fed_from holidays input taken room (state a kept))
 
 -- What a line that ended is read as; none where it waits.
 abbrev pub read_as : Next → Option (Option Call)
@@ -54,25 +48,23 @@ read_as NoFrame = Some None
 read_as (Frame frame) = Some (Some (call_of frame))
 
 -- A line that ended: there is room for its answer, and what it comes to is what its frame's call comes to, or 40, or 14.
-pub record Ends (input : List ℕ) (from room begun : ℕ) (line kept : List ℕ) (r : Found) (read : Option Call) : Type 0 where
+pub record Ends (input : List ℕ) (from room : ℕ) (line kept : Begun) (r : Found) (read : Option Call) : Type 0 where
   pub room_left : longest_answer ≤ room
   pub onward : from < r.taken
-  pub none_begun : r.length ≡ 0
-  pub blank : kept ≡ blank_line
+  pub none_begun : kept ≡ none_begun
   pub leads : (holidays : List ℕ) (a : Account)
-      → Leads from r.taken (fed_from holidays input from room (state a begun line))
+      → Leads from r.taken (fed_from holidays input from room (state a line))
       (fed_behind holidays input r.taken room (parsed_outcome holidays a read))
 
 -- The next line.
-pub record Finds (input : List ℕ) (from room begun : ℕ) (line kept : List ℕ) (r : Found) : Type 0 where
+pub record Finds (input : List ℕ) (from room : ℕ) (line kept : Begun) (r : Found) : Type 0 where
   pub within : r.taken ≤ length input
-  pub ended : (read : Option Call) → read_as r.next ≡ Some read → Ends input from room begun line kept r read
+  pub ended : (read : Option Call) → read_as r.next ≡ Some read → Ends input from room line kept r read
   pub waits : read_as r.next ≡ None → (holidays : List ℕ) (a : Account)
-      → Leads from r.taken (fed_from holidays input from room (state a begun line)) (nothing (state a r.length kept))
-  pub clear : r.length ≡ 0 → kept ≡ blank_line
+      → Leads from r.taken (fed_from holidays input from room (state a line)) (nothing (state a kept))
 
-abbrev pub found_at : Next → ℕ → ℕ → Found
-found_at next taken kept = record { next = next; taken = taken; length = kept }
+abbrev pub found_at : Next → ℕ → Found
+found_at next taken = record { next = next; taken = taken }
 
 -- What a piece makes of a state by a list that breaks its bounds: the account stays.
 pub record Declines (holidays input text : List ℕ) (s : State) (out : List ℕ) (r : Fed) : Type 0 where
@@ -81,4 +73,3 @@ pub record Declines (holidays input text : List ℕ) (s : State) (out : List ℕ
   pub taken_most : r.taken ≤ length input
   pub written_most : r.written ≤ length text
   pub account_is : r.state.account ≡ s.account
-  pub clear : r.state.length ≡ 0 → r.state.line ≡ blank_line

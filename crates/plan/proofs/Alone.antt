@@ -9,10 +9,8 @@ use types.Run.{OneOf, miss}
 use Rattle.meter.specs.declared.Estimate.{Estimate}
 use Rattle.intake.specs.declared.Call.TheVariants.{Opening, Reading, Missed, Absent, Exchange, Disconnection, Reconnection, Cancellation}
 use Rattle.intake.specs.declared.Call.TheVariants.{Payment, StoppedCancellation}
-use Rattle.common.specs.declared.Refusal.{Refusal}
 use Rattle.intake.specs.{declared.Head.Head, declared.Call.Call, Refusals.miss_refusal, Refusals.first_refusal}
 use Rattle.plan.specs.Plans.{PlannedAs, passed_plan, passed_volumes, Planned, planned_volumes, miss_plan, missed_volume}
-use Rattle.plan.specs.declared.Plan.{Plan}
 use Rattle.plan.specs.Plans.{ReadPlanned, read_volumes, no_reading, reading_in, no_miss, miss_in, misses, reads}
 use Rattle.meter.specs.Sharing.{filled_with}
 use Rattle.intake.specs.contracts.Call.{the_type}

@@ -82,6 +82,10 @@ money_entry day money posts = record { day = day; money = money; charge = None; 
 abbrev pub payment_plan : Head → ℕ → ℕ → Plan
 payment_plan h day yen = asking_plan h h.status (money_entry day yen (is_cancelled h.status))
 
+-- A closing posts what it charges and the interest held.
+abbrev pub charge_entry : ℕ → ℕ → Entry
+charge_entry day charge = record { day = day; money = 0; charge = Some charge; posts = false }
+
 abbrev pub held_entry : ℕ → Entry
 held_entry day = record { day = day; money = 0; charge = Some 0; posts = false }
 

@@ -6,46 +6,38 @@ ghost use Rattle.intake.specs.Statuses.{is_new, is_stopped, stop_of};
 ghost use Rattle.intake.specs.Periods.{resumed_start};
 ghost use Rattle.intake.specs.Limits.{most_volume};
 ghost use Rattle.intake.specs.Refusals.{begins, dial_refusal, miss_refusal, exchange_refusal, payment_refusal};
-ghost use Rattle.intake.specs.Heads.{HeadBounds};
-ghost use Rattle.plan.specs.Plans.{ends, status_after, quiet_plan, PlannedAs, begun_plan, exchanged_plan, payment_plan, stopped_plan};
-ghost use Rattle.plan.specs.Plans.{asking_plan, money_entry, held_entry, miss_plan, missed_volume, figured_plan, ReadPlanned};
+ghost use Rattle.plan.specs.Plans.{status_after, quiet_plan, PlannedAs, begun_plan, exchanged_plan, payment_plan, stopped_plan};
+ghost use Rattle.plan.specs.Plans.{asking_plan, money_entry, charge_entry, miss_plan, missed_volume, figured_plan, ReadPlanned};
 ghost use Rattle.plan.specs.Plans.{read_volumes, Planned, planned_volumes};
 ghost use Rattle.meter.specs.Sharing.{filled_with};
-ghost use Rattle.closing.specs.Closing.{StandingBounds};
 
 use crate::{Change, ClosingRead, Plan, Then};
-use closing::{Figures, close, pool_to};
+use closing::{Billing, Figures};
 use common::Refusal;
 use intake::periods::{days_of, resumed_start};
-use intake::refusals::{
-    allow_dial, allow_exchange, allow_miss, allow_payment, allow_reading, allow_start,
-};
-use intake::statuses::{start_of, stop_of};
 use intake::{Call, Head, Status};
 use ledger::{Entry, charge_of, credit_of};
-use meter::{Estimate, Meter};
+use meter::{Estimate, MOST_FINAL, Meter};
 use tariff::{Fuel, price};
 
 // Any call, over the estimates that stand. The three calls that read the meter to close a period go one road. Fuel prices are
 // taken apart and made anew, so that the compiler keeps the call out of memory.
 #[tactic(auto, unfolding(intake::specs::Refusals::first_refusal, crate::specs::Plans::planned_volumes, crate::specs::Plans::passed_plan, crate::specs::Plans::passed_volumes))]
 pub fn plan_with(
-    head: Head,
-    standing: &[Estimate],
+    billing: Billing<'_>,
     call: Call,
-    volumes: &mut [u32; 7],
+    volumes: &mut [u32; MOST_FINAL],
 ) -> Result<Plan, Refusal>
-    requires head_bounds { HeadBounds head }
-    requires standing_bounds { StandingBounds standing.now }
-    ensures value { Planned head standing.now call result }
-    ensures volumes_after { volumes.new ≡ filled_with (planned_volumes head standing.now call) volumes.old }
+    ensures value { Planned billing.entry.head billing.entry.standing.periods.now call result }
+    ensures volumes_after { volumes.new ≡
+        filled_with (planned_volumes billing.entry.head billing.entry.standing.periods.now call) volumes.old }
 {
     let read = match call {
         Call::Opening {
             day,
             reading,
             digits,
-        } => return plan_opening(head, day, reading, digits),
+        } => return plan_opening(billing.head, day, reading, digits),
         Call::Reading {
             day,
             reading,
@@ -59,17 +51,17 @@ pub fn plan_with(
         Call::Missed {
             day,
             fuel: Fuel { lng, propane },
-        } => return plan_miss(head, day, Fuel { lng, propane }, false),
+        } => return plan_miss(billing, day, Fuel { lng, propane }, false),
         Call::Absent {
             day,
             fuel: Fuel { lng, propane },
-        } => return plan_miss(head, day, Fuel { lng, propane }, true),
+        } => return plan_miss(billing, day, Fuel { lng, propane }, true),
         Call::Exchange {
             day,
             old,
             new,
             digits,
-        } => return plan_exchange(head, day, old, new, digits),
+        } => return plan_exchange(billing, day, old, new, digits),
         Call::Disconnection {
             day,
             reading,
@@ -84,7 +76,7 @@ pub fn plan_with(
             day,
             reading,
             digits,
-        } => return plan_reconnection(head, day, reading, digits),
+        } => return plan_reconnection(billing.head, day, reading, digits),
         Call::Cancellation {
             day,
             reading,
@@ -95,10 +87,10 @@ pub fn plan_with(
             fuel: Fuel { lng, propane },
             then: Then::Ends,
         },
-        Call::Payment { day, yen } => return plan_payment(head, day, yen),
-        Call::StoppedCancellation { day } => return plan_stopped(head, day),
+        Call::Payment { day, yen } => return plan_payment(billing.head, day, yen),
+        Call::StoppedCancellation { day } => return plan_stopped(billing.head, day),
     };
-    plan_reading(head, standing, read, volumes)
+    plan_reading(billing, read, volumes)
 }
 
 // 01: opening
@@ -106,7 +98,10 @@ fn plan_opening(head: Head, day: u16, reading: u32, digits: u8) -> Result<Plan, 
     ensures { PlannedAs (dial_refusal (is_new head.status) head day reading digits)
         (begun_plan head day reading digits day) result }
 {
-    allow_dial(head.status.is_new(), head, day, reading, digits)?;
+    if !head.status.is_new() {
+        return Err(Refusal::Status);
+    }
+    head.allow_dial(day, reading, digits)?;
     Ok(begin_period(head, day, reading, digits, day))
 }
 
@@ -115,8 +110,9 @@ fn plan_reconnection(head: Head, day: u16, reading: u32, digits: u8) -> Result<P
     ensures { PlannedAs (dial_refusal (is_stopped head.status) head day reading digits)
         (begun_plan head day reading digits (resumed_start (stop_of head.status) day)) result }
 {
-    allow_dial(head.status.is_stopped(), head, day, reading, digits)?;
-    let start = resumed_start(stop_of(head.status), day);
+    let stop = head.status.stopped_on()?;
+    head.allow_dial(day, reading, digits)?;
+    let start = resumed_start(stop, day);
     Ok(begin_period(head, day, reading, digits, start))
 }
 
@@ -137,12 +133,19 @@ fn begin_period(head: Head, day: u16, reading: u32, digits: u8, start: u16) -> P
 }
 
 // 05: the old meter's advance goes to the pool, and the new meter goes on.
-fn plan_exchange(head: Head, day: u16, old: u32, new: u32, digits: u8) -> Result<Plan, Refusal>
-    requires { HeadBounds head }
-    ensures { PlannedAs (exchange_refusal head day old new digits) (exchanged_plan head day old new digits) result }
+fn plan_exchange(
+    billing: Billing<'_>,
+    day: u16,
+    old: u32,
+    new: u32,
+    digits: u8,
+) -> Result<Plan, Refusal>
+    ensures { PlannedAs (exchange_refusal billing.entry.head day old new digits)
+        (exchanged_plan billing.entry.head day old new digits) result }
 {
-    allow_exchange(head, day, old, new, digits)?;
-    let pool = pool_to(head.meter, old);
+    let head = billing.head;
+    head.allow_exchange(day, old, new, digits)?;
+    let pool = head.meter.pool_to(old);
     Ok(quiet(Head {
         latest: day,
         meter: Meter {
@@ -159,7 +162,7 @@ fn plan_exchange(head: Head, day: u16, old: u32, new: u32, digits: u8) -> Result
 fn plan_payment(head: Head, day: u16, yen: u32) -> Result<Plan, Refusal>
     ensures { PlannedAs (payment_refusal head day yen) (payment_plan head day yen) result }
 {
-    allow_payment(head, day, yen)?;
+    head.allow_payment(day, yen)?;
     let entry = money_entry(day, u64::from(yen), head.status.is_cancelled());
     Ok(asking(head, head.status, entry))
 }
@@ -168,8 +171,9 @@ fn plan_payment(head: Head, day: u16, yen: u32) -> Result<Plan, Refusal>
 fn plan_stopped(head: Head, day: u16) -> Result<Plan, Refusal>
     ensures { PlannedAs (begins (is_stopped head.status) head.latest day 0) (stopped_plan head day) result }
 {
-    allow_start(head.status.is_stopped(), head.latest, day)?;
-    Ok(asking(head, Status::Cancelled, held_entry(day)))
+    head.status.stopped_on()?;
+    head.allow_day(day)?;
+    Ok(asking(head, Status::Cancelled, charge_entry(day, 0)))
 }
 
 // Money comes in.
@@ -179,20 +183,19 @@ fn money_entry(day: u16, money: u64, posts: bool) -> Entry
     Entry {
         day,
         money,
-        charge: None,
         posts,
+        ..Entry::default()
     }
 }
 
-// Interest held is posted.
-fn held_entry(day: u16) -> Entry
-    ensures { result ≡ held_entry day }
+// A closing posts what it charges and the interest held: with a charge of 0, the interest alone.
+fn charge_entry(day: u16, charge: u64) -> Entry
+    ensures { result ≡ charge_entry day charge }
 {
     Entry {
         day,
-        money: 0,
-        charge: Some(0),
-        posts: false,
+        charge: Some(charge),
+        ..Entry::default()
     }
 }
 
@@ -200,31 +203,29 @@ fn held_entry(day: u16) -> Entry
 fn asking(head: Head, status: Status, entry: Entry) -> Plan
     ensures { result ≡ asking_plan head status entry }
 {
+    let head = Head {
+        status,
+        latest: entry.day,
+        ..head
+    };
     Plan {
-        head: Head {
-            status,
-            latest: entry.day,
-            ..head
-        },
-        change: Change::Kept,
         entry: Some(entry),
-        estimated: 0,
-        count: 0,
-        net: 0,
+        ..quiet(head)
     }
 }
 
-// 03 bills the volume of the period just before, 04 bills 0.
+// 03 and 04: a missed reading.
 #[inline(always)]
-fn plan_miss(head: Head, day: u16, fuel: Fuel, absent: bool) -> Result<Plan, Refusal>
-    requires { HeadBounds head }
-    ensures { PlannedAs (miss_refusal head day fuel) (miss_plan head day fuel absent (missed_volume head absent)) result }
+fn plan_miss(billing: Billing<'_>, day: u16, fuel: Fuel, absent: bool) -> Result<Plan, Refusal>
+    ensures { PlannedAs (miss_refusal billing.entry.head day fuel)
+        (miss_plan billing.entry.head day fuel absent (missed_volume billing.entry.head absent)) result }
 {
-    allow_miss(head, day, fuel)?;
-    let volume = missed_volume(head, absent);
-    Ok(estimate_period(head, day, fuel, absent, volume))
+    billing.head.allow_miss(day, fuel)?;
+    let volume = missed_volume(billing.head, absent);
+    Ok(estimate_period(billing, day, fuel, absent, volume))
 }
 
+// 03 bills the volume of the period just before, 04 bills 0.
 fn missed_volume(head: Head, absent: bool) -> u32
     ensures { result ≡ missed_volume head absent }
 {
@@ -234,60 +235,52 @@ fn missed_volume(head: Head, absent: bool) -> u32
 // The period is billed on an estimate, which stands until a reading.
 #[inline(always)]
 #[tactic(auto, using(crate::proofs::Bounds::missed_most))]
-fn estimate_period(head: Head, day: u16, fuel: Fuel, absent: bool, volume: u32) -> Plan
-    requires head_bounds { HeadBounds head }
-    requires fuel_value { miss_refusal head day fuel ≡ 0 }
+fn estimate_period(billing: Billing<'_>, day: u16, fuel: Fuel, absent: bool, volume: u32) -> Plan
+    requires fuel_value { miss_refusal billing.head day fuel ≡ 0 }
     requires volume_le_most_volume { volume ≤ most_volume }
-    ensures { result ≡ miss_plan head day fuel absent volume }
+    ensures { result ≡ miss_plan billing.entry.head day fuel absent volume }
 {
-    let days = days_of(start_of(head.status), day);
+    let head = billing.head;
+    let days = days_of(head.status.start(), day);
     let charged = price(u32::from(days), fuel, volume);
+    let estimate = Estimate {
+        absent,
+        days,
+        fuel,
+        volume,
+        charged,
+    };
+    let head = Head {
+        status: Status::Supplied { start: day + 1 },
+        latest: day,
+        meter: Meter {
+            previous: volume,
+            ..head.meter
+        },
+        standing: head.standing + 1,
+    };
     Plan {
-        head: Head {
-            status: Status::Supplied { start: day + 1 },
-            latest: day,
-            meter: Meter {
-                previous: volume,
-                ..head.meter
-            },
-            standing: head.standing + 1,
-            ..head
-        },
-        change: Change::Added {
-            estimate: Estimate {
-                absent,
-                days,
-                fuel,
-                volume,
-                charged,
-            },
-        },
-        entry: Some(Entry {
-            day,
-            money: 0,
-            charge: Some(u64::from(charged)),
-            posts: false,
-        }),
+        change: Change::Added { estimate },
+        entry: Some(charge_entry(day, u64::from(charged))),
         estimated: volume,
-        count: 0,
         net: charged as i32,
+        ..quiet(head)
     }
 }
 
 // 02, 06 and 08, over the estimates that stand.
 fn plan_reading(
-    head: Head,
-    standing: &[Estimate],
+    billing: Billing<'_>,
     read: ClosingRead,
-    volumes: &mut [u32; 7],
+    volumes: &mut [u32; MOST_FINAL],
 ) -> Result<Plan, Refusal>
-    requires head_bounds { HeadBounds head }
-    requires standing_bounds { StandingBounds standing.now }
-    ensures value { ReadPlanned head standing.now read result }
-    ensures volumes_after { volumes.new ≡ filled_with (read_volumes head standing.now read) volumes.old }
+    ensures value { ReadPlanned billing.entry.head billing.entry.standing.periods.now read result }
+    ensures volumes_after { volumes.new ≡
+        filled_with (read_volumes billing.entry.head billing.entry.standing.periods.now read) volumes.old }
 {
-    allow_reading(head, read.day, read.reading, read.fuel)?;
-    let figures = close(head, standing, read.day, read.reading, read.fuel, volumes);
+    let head = billing.head;
+    head.allow_reading(read.day, read.reading, read.fuel)?;
+    let figures = billing.close(read.day, read.reading, read.fuel, volumes);
     Ok(after_reading(head, read, figures))
 }
 
@@ -298,38 +291,33 @@ fn after_reading(head: Head, read: ClosingRead, figures: Figures) -> Plan
     ensures { result ≡ figured_plan head read.day read.reading read.then figures }
 {
     let net = figures.net;
-    Plan {
-        head: Head {
-            status: status_after(read.then, read.day),
-            latest: read.day,
-            meter: Meter {
-                dial: read.reading,
-                pool: 0,
-                previous: figures.volume,
-                ..head.meter
-            },
-            standing: 0,
-            ..head
+    let entry = Entry {
+        day: read.day,
+        money: credit_of(net),
+        charge: Some(charge_of(net)),
+        posts: matches!(read.then, Then::Ends),
+    };
+    let head = Head {
+        status: status_after(read.then, read.day),
+        latest: read.day,
+        meter: Meter {
+            dial: read.reading,
+            pool: 0,
+            previous: figures.volume,
+            ..head.meter
         },
+        standing: 0,
+    };
+    Plan {
         change: Change::Cleared,
-        entry: Some(Entry {
-            day: read.day,
-            money: credit_of(net),
-            charge: Some(charge_of(net)),
-            posts: ends(read.then),
-        }),
-        estimated: 0,
+        entry: Some(entry),
         count: figures.count,
         net,
+        ..quiet(head)
     }
 }
 
-fn ends(then: Then) -> bool
-    ensures { result ≡ ends then }
-{
-    matches!(then, Then::Ends)
-}
-
+// The next period begins the day after the reading. A stop falls on its day.
 fn status_after(then: Then, day: u16) -> Status
     requires { day ≤ last_call_day }
     ensures { result ≡ status_after then day }

@@ -10,6 +10,7 @@ use meter::{Estimate, Estimates, Meter};
 use std::io;
 use tariff::Fuel;
 
+// k is 0 at these prices.
 pub const FUEL: Fuel = Fuel {
     lng: 83_130,
     propane: 75_000,
@@ -23,7 +24,7 @@ const METER: Meter = Meter {
 };
 
 // A missed period of 30 days and 30 m3.
-const MISSED: Estimate = Estimate {
+pub const MISSED: Estimate = Estimate {
     absent: false,
     days: 30,
     fuel: FUEL,
@@ -49,28 +50,14 @@ pub const INTEREST: Item = Item {
 };
 
 // The line of a payment of 1 yen on day 100, with no day closed.
-pub fn show(rt: &impl Print, account: Account, name: &[u8]) -> io::Result<()> {
-    let none = [0u16; 0];
-    line(rt, account.pay(&none, 100, 1), name)
+pub fn show(rt: &impl Print, account: Account, name: &str) -> io::Result<()> {
+    line(rt, account.pay(&[], 100, 1), name)
 }
 
 // A call's number, that of such a payment on the account that it handed back, and what was handed in.
-pub fn line(rt: &impl Print, outcome: Outcome, name: &[u8]) -> io::Result<()> {
-    let none = [0u16; 0];
-    let back = outcome.account;
-    let again = back.pay(&none, 100, 1);
-    number(rt, outcome.answer.number)?;
-    number(rt, again.answer.number)?;
-    text(rt, name)?;
-    text(rt, b"\n")
-}
-
-fn number(rt: &impl Print, n: u8) -> io::Result<()> {
-    print!(rt; "{n} ")
-}
-
-pub fn text(rt: &impl Print, line: &[u8]) -> io::Result<()> {
-    rt.write_all(line)
+pub fn line(rt: &impl Print, outcome: Outcome, name: &str) -> io::Result<()> {
+    let again = outcome.account.pay(&[], 100, 1);
+    println!(rt; "{} {} {name}", outcome.answer.number, again.answer.number)
 }
 
 // An account, changed.

@@ -8,7 +8,7 @@
 use account::Account;
 use intake::Status;
 use ledger::{Item, Ledger};
-use samples::{FUEL, INTEREST, OPEN, but, line, show, supplied, text};
+use samples::{FUEL, INTEREST, OPEN, but, line, show, supplied};
 use std::io;
 use tariff::Fuel;
 
@@ -28,224 +28,143 @@ fn main(rt: HostRuntime) -> io::Result<()> {
 }
 
 fn statuses(rt: &impl Print) -> io::Result<()> {
-    show(rt, Account::new(), b"new")?;
-    show(rt, supplied(), b"supplied")?;
-    show(
+    show(rt, Account::new(), "new")?;
+    show(rt, supplied(), "supplied")?;
+    show(rt, stopped(90), "stopped")?;
+    show(rt, cancelled(0), "cancelled")?;
+    show(rt, cancelled(1), "cancelled, 1 held")?;
+    changed(
         rt,
-        but(
-            supplied(),
-            |account| account.status = Status::Stopped { stop: 90 },
-        ),
-        b"stopped",
+        |account| account.status = Status::Supplied { start: 101 },
+        "period start 101, latest day 100",
     )?;
-    show(rt, cancelled(0), b"cancelled")?;
-    show(rt, cancelled(1), b"cancelled, 1 held")?;
-    show(
+    changed(
         rt,
-        but(
-            supplied(),
-            |account| account.status = Status::Supplied { start: 101 },
-        ),
-        b"period start 101, latest day 100",
+        |account| account.status = Status::Supplied { start: 102 },
+        "period start 102, latest day 100",
     )?;
-    show(
-        rt,
-        but(
-            supplied(),
-            |account| account.status = Status::Supplied { start: 102 },
-        ),
-        b"period start 102, latest day 100",
-    )?;
-    show(
-        rt,
-        but(
-            supplied(),
-            |account| account.status = Status::Stopped { stop: 100 },
-        ),
-        b"stop day 100, latest day 100",
-    )?;
-    show(
-        rt,
-        but(
-            supplied(),
-            |account| account.status = Status::Stopped { stop: 101 },
-        ),
-        b"stop day 101, latest day 100",
-    )
+    show(rt, stopped(100), "stop day 100, latest day 100")?;
+    show(rt, stopped(101), "stop day 101, latest day 100")
 }
 
 fn meters(rt: &impl Print) -> io::Result<()> {
-    show(
+    changed(rt, |account| account.latest = 36_094, "latest day 36094")?;
+    changed(rt, |account| account.latest = 36_095, "latest day 36095")?;
+    show(rt, with_dial(0, 0), "0 digits")?;
+    show(rt, with_dial(3, 130), "3 digits")?;
+    show(rt, with_dial(5, 130), "5 digits")?;
+    show(rt, with_dial(6, 130), "6 digits")?;
+    show(rt, with_dial(4, 9_999), "dial 9999 of 4 digits")?;
+    show(rt, with_dial(4, 10_000), "dial 10000 of 4 digits")?;
+    show(rt, with_dial(5, 99_999), "dial 99999 of 5 digits")?;
+    show(rt, with_dial(5, 100_000), "dial 100000 of 5 digits")?;
+    show(rt, with_pool(99_999), "pool 99999")?;
+    show(rt, with_pool(100_000), "pool 100000")?;
+    changed(
         rt,
-        but(supplied(), |account| account.latest = 36_094),
-        b"latest day 36094",
+        |account| account.meter.previous = 99_999,
+        "previous volume 99999",
     )?;
-    show(
+    changed(
         rt,
-        but(supplied(), |account| account.latest = 36_095),
-        b"latest day 36095",
-    )?;
-    show(rt, with_dial(0, 0), b"0 digits")?;
-    show(rt, with_dial(3, 130), b"3 digits")?;
-    show(rt, with_dial(5, 130), b"5 digits")?;
-    show(rt, with_dial(6, 130), b"6 digits")?;
-    show(rt, with_dial(4, 9_999), b"dial 9999 of 4 digits")?;
-    show(rt, with_dial(4, 10_000), b"dial 10000 of 4 digits")?;
-    show(rt, with_dial(5, 99_999), b"dial 99999 of 5 digits")?;
-    show(rt, with_dial(5, 100_000), b"dial 100000 of 5 digits")?;
-    show(
-        rt,
-        but(supplied(), |account| account.meter.pool = 99_999),
-        b"pool 99999",
-    )?;
-    show(
-        rt,
-        but(supplied(), |account| account.meter.pool = 100_000),
-        b"pool 100000",
-    )?;
-    show(
-        rt,
-        but(supplied(), |account| account.meter.previous = 99_999),
-        b"previous volume 99999",
-    )?;
-    show(
-        rt,
-        but(supplied(), |account| account.meter.previous = 100_000),
-        b"previous volume 100000",
+        |account| account.meter.previous = 100_000,
+        "previous volume 100000",
     )
 }
 
 fn estimate_days(rt: &impl Print) -> io::Result<()> {
-    show(
+    changed(
         rt,
-        but(supplied(), |account| account.estimates.periods[1].days = 0),
-        b"estimate of 0 days",
+        |account| account.estimates.periods[1].days = 0,
+        "estimate of 0 days",
     )?;
-    show(
+    changed(
         rt,
-        but(supplied(), |account| account.estimates.periods[1].days = 1),
-        b"estimate of 1 day",
+        |account| account.estimates.periods[1].days = 1,
+        "estimate of 1 day",
     )?;
-    show(
+    changed(
         rt,
-        but(
-            supplied(),
-            |account| account.estimates.periods[1].days = 36_495,
-        ),
-        b"estimate of 36495 days",
+        |account| account.estimates.periods[1].days = 36_495,
+        "estimate of 36495 days",
     )?;
-    show(
+    changed(
         rt,
-        but(
-            supplied(),
-            |account| account.estimates.periods[1].days = 36_496,
-        ),
-        b"estimate of 36496 days",
+        |account| account.estimates.periods[1].days = 36_496,
+        "estimate of 36496 days",
     )
 }
 
 fn estimate_fuels(rt: &impl Print) -> io::Result<()> {
-    show(rt, with_fuel(300_000, 300_000), b"estimate at fuel 300000")?;
-    show(rt, with_fuel(300_010, 75_000), b"estimate at LNG 300010")?;
-    show(rt, with_fuel(15, 75_000), b"estimate at LNG 15")?;
-    show(
-        rt,
-        with_fuel(83_130, 300_010),
-        b"estimate at propane 300010",
-    )?;
-    show(rt, with_fuel(83_130, 15), b"estimate at propane 15")
+    show(rt, with_fuel(300_000, 300_000), "estimate at fuel 300000")?;
+    show(rt, with_fuel(300_010, 75_000), "estimate at LNG 300010")?;
+    show(rt, with_fuel(15, 75_000), "estimate at LNG 15")?;
+    show(rt, with_fuel(83_130, 300_010), "estimate at propane 300010")?;
+    show(rt, with_fuel(83_130, 15), "estimate at propane 15")
 }
 
 fn estimate_amounts(rt: &impl Print) -> io::Result<()> {
-    show(
+    changed(
         rt,
-        but(
-            supplied(),
-            |account| account.estimates.periods[1].volume = 99_999,
-        ),
-        b"estimate of 99999 m3",
+        |account| account.estimates.periods[1].volume = 99_999,
+        "estimate of 99999 m3",
     )?;
-    show(
+    changed(
         rt,
-        but(
-            supplied(),
-            |account| account.estimates.periods[1].volume = 100_000,
-        ),
-        b"estimate of 100000 m3",
+        |account| account.estimates.periods[1].volume = 100_000,
+        "estimate of 100000 m3",
     )?;
-    show(
+    changed(
         rt,
-        but(
-            supplied(),
-            |account| account.estimates.periods[1].charged = 100_000_000,
-        ),
-        b"estimate charged 100000000",
+        |account| account.estimates.periods[1].charged = 100_000_000,
+        "estimate charged 100000000",
     )?;
-    show(
+    changed(
         rt,
-        but(
-            supplied(),
-            |account| account.estimates.periods[1].charged = 100_000_001,
-        ),
-        b"estimate charged 100000001",
+        |account| account.estimates.periods[1].charged = 100_000_001,
+        "estimate charged 100000001",
     )
 }
 
 fn estimate_counts(rt: &impl Print) -> io::Result<()> {
-    show(
-        rt,
-        but(supplied(), |account| account.estimates.count = 6),
-        b"6 estimates",
-    )?;
-    show(
-        rt,
-        but(supplied(), |account| account.estimates.count = 7),
-        b"7 estimates",
-    )?;
+    changed(rt, |account| account.estimates.count = 6, "6 estimates")?;
+    changed(rt, |account| account.estimates.count = 7, "7 estimates")?;
     show(
         rt,
         counted_estimates(2),
-        b"2 estimates, wrong in the third place",
+        "2 estimates, wrong in the third place",
     )?;
     show(
         rt,
         counted_estimates(3),
-        b"3 estimates, wrong in the third place",
+        "3 estimates, wrong in the third place",
     )
 }
 
 fn item_amounts(rt: &impl Print) -> io::Result<()> {
-    show(rt, with_price(6_650, 0), b"item with 0 unpaid")?;
-    show(rt, with_price(6_650, 1), b"item with 1 unpaid")?;
+    show(rt, with_price(6_650, 0), "item with 0 unpaid")?;
+    show(rt, with_price(6_650, 1), "item with 1 unpaid")?;
     show(
         rt,
         with_price(6_650, 6_650),
-        b"item of 6650 with 6650 unpaid",
+        "item of 6650 with 6650 unpaid",
     )?;
     show(
         rt,
         with_price(6_650, 6_651),
-        b"item of 6650 with 6651 unpaid",
+        "item of 6650 with 6651 unpaid",
     )?;
-    show(
-        rt,
-        with_price(1_000_000_000, 1),
-        b"price item of 1000000000",
-    )?;
-    show(
-        rt,
-        with_price(1_000_000_001, 1),
-        b"price item of 1000000001",
-    )?;
+    show(rt, with_price(1_000_000_000, 1), "price item of 1000000000")?;
+    show(rt, with_price(1_000_000_001, 1), "price item of 1000000001")?;
     show(
         rt,
         with_interest(1_000_000_000_000),
-        b"interest item of 1000000000000",
+        "interest item of 1000000000000",
     )?;
     show(
         rt,
         with_interest(1_000_000_000_001),
-        b"interest item of 1000000000001",
+        "interest item of 1000000000001",
     )
 }
 
@@ -253,45 +172,53 @@ fn item_days(rt: &impl Print) -> io::Result<()> {
     show(
         rt,
         with_item_days(100, 130),
-        b"obligation day 100, latest day 100",
+        "obligation day 100, latest day 100",
     )?;
     show(
         rt,
         with_item_days(101, 131),
-        b"obligation day 101, latest day 100",
+        "obligation day 101, latest day 100",
     )?;
-    show(rt, with_item_days(59, 36_524), b"due day 36524")?;
-    show(rt, with_item_days(59, 36_525), b"due day 36525")
+    show(rt, with_item_days(59, 36_524), "due day 36524")?;
+    show(rt, with_item_days(59, 36_525), "due day 36525")
 }
 
 fn item_counts(rt: &impl Print) -> io::Result<()> {
-    show(rt, with_credit(72, 0), b"72 items")?;
-    show(rt, with_credit(73, 0), b"73 items")?;
-    show(rt, counted_items(71), b"71 items, wrong in the 72nd place")?;
-    show(rt, counted_items(72), b"72 items, wrong in the 72nd place")
+    show(rt, with_credit(72, 0), "72 items")?;
+    show(rt, with_credit(73, 0), "73 items")?;
+    show(rt, counted_items(71), "71 items, wrong in the 72nd place")?;
+    show(rt, counted_items(72), "72 items, wrong in the 72nd place")
 }
 
 fn balances(rt: &impl Print) -> io::Result<()> {
-    show(
+    changed(
         rt,
-        but(
-            supplied(),
-            |account| account.ledger.held = 1_000_000_000_000,
-        ),
-        b"1000000000000 held",
+        |account| account.ledger.held = 1_000_000_000_000,
+        "1000000000000 held",
     )?;
-    show(
+    changed(
         rt,
-        but(
-            supplied(),
-            |account| account.ledger.held = 1_000_000_000_001,
-        ),
-        b"1000000000001 held",
+        |account| account.ledger.held = 1_000_000_000_001,
+        "1000000000001 held",
     )?;
-    show(rt, with_credit(0, 1), b"credit 1, no item open")?;
-    show(rt, with_credit(1, 1), b"credit 1, an item open")?;
-    show(rt, with_credit(0, 999_999_999), b"credit 999999999")?;
-    show(rt, with_credit(0, 1_000_000_000), b"credit 1000000000")
+    show(rt, with_credit(0, 1), "credit 1, no item open")?;
+    show(rt, with_credit(1, 1), "credit 1, an item open")?;
+    show(rt, with_credit(0, 999_999_999), "credit 999999999")?;
+    show(rt, with_credit(0, 1_000_000_000), "credit 1000000000")
+}
+
+// The line of a supplied account, changed.
+fn changed<F: FnOnce(&mut Account)>(rt: &impl Print, change: F, name: &str) -> io::Result<()>
+    requires { F.IsAlwaysCallable change }
+{
+    show(rt, but(supplied(), change), name)
+}
+
+fn stopped(stop: u16) -> Account {
+    but(
+        supplied(),
+        |account| account.status = Status::Stopped { stop },
+    )
 }
 
 fn cancelled(held: u64) -> Account {
@@ -306,6 +233,10 @@ fn with_dial(digits: u8, dial: u32) -> Account {
         account.meter.digits = digits;
         account.meter.dial = dial;
     })
+}
+
+fn with_pool(pool: u32) -> Account {
+    but(supplied(), |account| account.meter.pool = pool)
 }
 
 fn with_fuel(lng: u32, propane: u32) -> Account {
@@ -372,64 +303,40 @@ fn with_ledger(count: usize, items: [Item; 72], credit: u64) -> Account {
 
 // Each call on a whole account that allows it, then on one account that is not whole.
 fn calls(rt: &impl Print) -> io::Result<()> {
-    let none = [0u16; 0];
-    text(rt, b"a new account\n")?;
-    other_calls(rt, Account::new(), &none)?;
-    text(rt, b"a stopped account\n")?;
-    other_calls(
-        rt,
-        but(
-            supplied(),
-            |account| account.status = Status::Stopped { stop: 90 },
-        ),
-        &none,
-    )?;
-    text(rt, b"a supplied account\n")?;
-    supplied_calls(rt, supplied(), &none)?;
-    text(rt, b"a supplied account with pool 100000\n")?;
-    supplied_calls(
-        rt,
-        but(supplied(), |account| account.meter.pool = 100_000),
-        &none,
-    )?;
-    other_calls(
-        rt,
-        but(supplied(), |account| account.meter.pool = 100_000),
-        &none,
-    )
+    println!(rt; "a new account")?;
+    other_calls(rt, Account::new(), &[])?;
+    println!(rt; "a stopped account")?;
+    other_calls(rt, stopped(90), &[])?;
+    println!(rt; "a supplied account")?;
+    supplied_calls(rt, supplied(), &[])?;
+    println!(rt; "a supplied account with pool 100000")?;
+    supplied_calls(rt, with_pool(100_000), &[])?;
+    other_calls(rt, with_pool(100_000), &[])
 }
 
 // 14 comes before 41 and before 1, and leaves the account as it was: what a payment by no list then meets.
 fn lists(rt: &impl Print) -> io::Result<()> {
     let equal = [5u16, 5];
-    text(rt, b"two equal days, a supplied account\n")?;
+    println!(rt; "two equal days, a supplied account")?;
     supplied_calls(rt, supplied(), &equal)?;
     other_calls(rt, supplied(), &equal)?;
-    text(rt, b"two equal days, a supplied account with pool 100000\n")?;
-    supplied_calls(
-        rt,
-        but(supplied(), |account| account.meter.pool = 100_000),
-        &equal,
-    )?;
-    other_calls(
-        rt,
-        but(supplied(), |account| account.meter.pool = 100_000),
-        &equal,
-    )
+    println!(rt; "two equal days, a supplied account with pool 100000")?;
+    supplied_calls(rt, with_pool(100_000), &equal)?;
+    other_calls(rt, with_pool(100_000), &equal)
 }
 
 fn other_calls(rt: &impl Print, account: Account, holidays: &[u16]) -> io::Result<()> {
-    line(rt, account.begin_supply(holidays, 100, 0, 4), b"01")?;
-    line(rt, account.reconnect(holidays, 100, 0, 4), b"07")?;
-    line(rt, account.cancel_stopped(holidays, 100), b"0a")
+    line(rt, account.begin_supply(holidays, 100, 0, 4), "01")?;
+    line(rt, account.reconnect(holidays, 100, 0, 4), "07")?;
+    line(rt, account.cancel_stopped(holidays, 100), "0a")
 }
 
 fn supplied_calls(rt: &impl Print, account: Account, holidays: &[u16]) -> io::Result<()> {
-    line(rt, account.read_meter(holidays, 100, 140, FUEL), b"02")?;
-    line(rt, account.miss_reading(holidays, 100, FUEL), b"03")?;
-    line(rt, account.note_absence(holidays, 100, FUEL), b"04")?;
-    line(rt, account.exchange_meter(holidays, 100, 140, 0, 4), b"05")?;
-    line(rt, account.disconnect(holidays, 100, 140, FUEL), b"06")?;
-    line(rt, account.cancel(holidays, 100, 140, FUEL), b"08")?;
-    line(rt, account.pay(holidays, 100, 1), b"09")
+    line(rt, account.read_meter(holidays, 100, 140, FUEL), "02")?;
+    line(rt, account.miss_reading(holidays, 100, FUEL), "03")?;
+    line(rt, account.note_absence(holidays, 100, FUEL), "04")?;
+    line(rt, account.exchange_meter(holidays, 100, 140, 0, 4), "05")?;
+    line(rt, account.disconnect(holidays, 100, 140, FUEL), "06")?;
+    line(rt, account.cancel(holidays, 100, 140, FUEL), "08")?;
+    line(rt, account.pay(holidays, 100, 1), "09")
 }

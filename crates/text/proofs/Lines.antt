@@ -1,5 +1,7 @@
 -- Laws of lines. Assumes nothing.
-use Rattle.common.proofs.Words.{◌≡◌, refl, ap, List, [], ◌∷◌, ◌++◌, ℕ, ◌+◌, ◌<◌, add-one, arith, eqb, eq-eqb, ne_eqb, length, get_or, take, take-suc}
+use Rattle.common.proofs.Words.{◌≡◌, refl, ap, cond, List, [], ◌∷◌, ◌++◌, ℕ, suc, ◌+◌, ◌≤◌, arith, eqb, length}
+use Rattle.std.specs.List.{sum_by}
+use Rattle.std.proofs.lemmas.List.{Recursion.is_count_by, Sums.count_by-le-length}
 use Rattle.lists.specs.Joined.{joined}
 use Rattle.common.proofs.Cases.{by_test}
 use Rattle.lists.proofs.Joined.{joined_behind}
@@ -51,18 +53,20 @@ unfolding account_after
 account_behind holidays a [] more = refl
 account_behind holidays a (line ∷ lines) more = account_behind holidays (line_outcome holidays a line).account lines more
 
--- The line ends of one text behind another, and of one character more.
+-- The line ends of one text behind another.
 pub ends_on : (came more : List ℕ) → ends_in (came ++ more) ≡ ends_in came + ends_in more
 ends_on [] more = omega arith
 ends_on (c ∷ cs) more =
     by_test (eqb c line_feed) (λ e. rw e (omega (arith, ends_on cs more))) (λ e. rw e (ends_on cs more))
 
-module _ (input : List ℕ) (i : ℕ) (h : i < length input) where
-  next : ends_in (take (i + 1) input) ≡ ends_in (take i input) + ends_in (get_or input i 0 ∷ [])
-  next = rw (add-one i, take-suc input i 0 h) (ends_on (take i input) (get_or input i 0 ∷ []))
+-- They are those that are counted one by one.
+pub ends_are_summed : (input : List ℕ) → ends_in input ≡ sum_by (λ c. cond (eqb c line_feed) 1 0) input
+ends_are_summed = is_count_by ends_in (λ c. eqb c line_feed) refl one_more
+  where
+    one_more : (c : ℕ) (cs : List ℕ) → ends_in (c ∷ cs) ≡ cond (eqb c line_feed) (1 + ends_in cs) (ends_in cs)
+    one_more c cs =
+        let more : suc (ends_in cs) ≡ 1 + ends_in cs = omega arith in
+        ap (λ n. cond (eqb c line_feed) n (ends_in cs)) more
 
-  pub ends_here : get_or input i 0 ≡ line_feed → ends_in (take (i + 1) input) ≡ ends_in (take i input) + 1
-  ends_here e = rw (eq-eqb (get_or input i 0) line_feed e) at next
-
-  pub ends_later : (get_or input i 0 ≡ line_feed → ⊥) → ends_in (take (i + 1) input) ≡ ends_in (take i input)
-  ends_later n = omega (arith, rw (ne_eqb (get_or input i 0) line_feed n) at next)
+pub ends_most : (input : List ℕ) → ends_in input ≤ length input
+ends_most input = rw (ends_are_summed input) (count_by-le-length (λ c. eqb c line_feed) input)

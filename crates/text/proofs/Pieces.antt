@@ -9,7 +9,8 @@ use Rattle.frames.specs.{Frames.parsed, Digits.line_feed}
 use Rattle.common.proofs.Cases.{by_test}
 use Rattle.frames.proofs.Frames.{too_long}
 use Rattle.answers.specs.Answers.{answer_line, longest_answer}
-use Rattle.lines.specs.Feeding.{kept_most, between, fresh, line_of, kept, line_ends, ended, Feeding, nothing, behind, feeding, finishing}
+use Rattle.lines.specs.Begun.{kept_most}
+use Rattle.lines.specs.Feeding.{between, fresh, line_of, kept, line_ends, ended, Feeding, nothing, behind, feeding, finishing}
 use Rattle.lines.specs.declared.State.{State}
 use Rattle.lines.proofs.Feeding.{feed_ends, finish_none, finish_line}
 use Rattle.feeding.specs.Reached.{Ready}
@@ -22,30 +23,27 @@ use Rattle.text.proofs.Sums.{account_run}
 holds_none : (a : Account) → Holds (between a) []
 holds_none a = record { line_is = refl; length_is = refl; line_long = refl; clear = λ z. refl }
 
-pub kept_account : (s : State) (c : ℕ) → (kept s c).account ≡ s.account
-kept_account s c = by_test (ltb s.length kept_most) (λ e. rw e) (λ e. rw e)
-
 module _ {s : State} {part : List ℕ} (h : Holds s part) where
   holds_kept : (c : ℕ) → Holds (kept s c) (part ++ (c ∷ []))
   holds_kept c =
       let count = h.length_is in
       let more = length-append part (c ∷ []) in
-      by_test (ltb s.length kept_most)
+      by_test (ltb s.line.length kept_most)
       (λ e.
-      let within : s.length < kept_most = ltb-true s.length kept_most e in
-      let whole : take (suc s.length) (set s.line s.length c) ≡ take kept_most (part ++ (c ∷ [])) =
-      take-suc-set s.line s.length c (rw h.line_long within) ∙
+      let within : s.line.length < kept_most = ltb-true s.line.length kept_most e in
+      let whole : take (suc s.line.length) (set s.line.characters s.line.length c) ≡ take kept_most (part ++ (c ∷ [])) =
+      take-suc-set s.line.characters s.line.length c (rw h.line_long within) ∙
       ap (λ xs. xs ++ (c ∷ [])) (h.line_is ∙ take_all kept_most part (omega arith)) ∙
       sym (take_all kept_most (part ++ (c ∷ [])) (omega arith)) in
       rw e
       (record {
         line_is = whole;
         length_is = omega arith;
-        line_long = length-set s.line s.length c ∙ h.line_long;
-        clear = λ z. absurd (suc-ne-zero s.length z);
+        line_long = length-set s.line.characters s.line.length c ∙ h.line_long;
+        clear = λ z. absurd (suc-ne-zero s.line.length z);
       }))
       (λ e.
-      let full : kept_most ≤ s.length = ltb-false s.length kept_most e in
+      let full : kept_most ≤ s.line.length = ltb-false s.line.length kept_most e in
       let same = take-append-le kept_most part (c ∷ []) (omega arith) in
       rw e (record { line_is = h.line_is ∙ sym same; length_is = omega arith; line_long = h.line_long; clear = h.clear }))
 
@@ -85,8 +83,8 @@ module _ (holidays : List ℕ) {s : State} {part : List ℕ} (h : Holds s part) 
     went_kept e w =
         record {
           holds = rw e w.holds;
-          account_is = rw (e, ← kept_account s c) w.account_is;
-          output_is = rw (e, ← kept_account s c) w.output_is;
+          account_is = rw e w.account_is;
+          output_is = rw e w.output_is;
         }
 
 went : (holidays bytes : List ℕ) (room : ℕ) {s : State} {part : List ℕ} → Holds s part
@@ -149,7 +147,7 @@ unfolding feeding
 fed_none holidays room s = refl
 
 module _ {holidays seen out : List ℕ} {s : State} (w : Stands holidays seen out s) where
-  ended_none : s.length ≡ 0 → Ended holidays seen out (nothing s)
+  ended_none : s.line.length ≡ 0 → Ended holidays seen out (nothing s)
   unfolding bill
   ended_none z =
       let count = w.holds.length_is in
@@ -157,7 +155,7 @@ module _ {holidays seen out : List ℕ} {s : State} (w : Stands holidays seen ou
       rw (lines_all seen, last_none (part_after [] seen) (omega arith)) (append-nil (lines_in [] seen)) in
       record { out_is = rw (append-nil out, lines) w.out_is; at_end = record { account_is = rw lines w.account_is; none_begun = z } }
 
-  ended_line : (s.length ≡ 0 → ⊥)
+  ended_line : (s.line.length ≡ 0 → ⊥)
       → Ended holidays seen out (behind (answer_line (line_ends holidays s).answer) (nothing (ended holidays s)))
   unfolding bill answers_of account_after
   ended_line n =
@@ -178,10 +176,10 @@ module _ {holidays seen out : List ℕ} {s : State} (w : Stands holidays seen ou
   pub stands_end : (room : ℕ) → longest_answer ≤ room → Ended holidays seen out (finishing holidays room s)
   stands_end room r =
       let left = room - length (answer_line (line_ends holidays s).answer) in
-      by_test (eqb s.length 0)
-      (λ e. let z = eqb-true s.length 0 e in rw (finish_none holidays room s z) (ended_none z))
+      by_test (eqb s.line.length 0)
+      (λ e. let z = eqb-true s.line.length 0 e in rw (finish_none holidays room s z) (ended_none z))
       (λ e.
-      let n = eqb-false s.length 0 e in
+      let n = eqb-false s.line.length 0 e in
       rw (finish_line holidays room s n, feed_ends holidays room s line_feed [] refl r, fed_none holidays left (ended holidays s))
       (ended_line n))
 
@@ -218,7 +216,4 @@ in_pieces holidays pieces room r = stands_end (stands_all pieces (stands_start h
 pub behind_ready : {holidays : List ℕ} {s : State} → Behind holidays s → Ready holidays s
 behind_ready {holidays} b =
     let lines = lines_in [] b.seen in
-    record {
-      reached = record { calls = calls_of lines; account_is = b.follows.account_is ∙ account_run holidays lines start };
-      clear = b.follows.holds.clear;
-    }
+    record { calls = calls_of lines; account_is = b.follows.account_is ∙ account_run holidays lines start }

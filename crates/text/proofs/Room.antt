@@ -24,7 +24,6 @@ use Rattle.lines.specs.{declared.State.State, Line.read_outcome, Line.parsed_out
 use Rattle.text.specs.Lines.{ends_in}
 use Rattle.feeding.specs.Reached.{Reached}
 use Rattle.lines.proofs.Feeding.{feed_ends, feed_keeps}
-use Rattle.text.proofs.Pieces.{kept_account}
 use Rattle.feeding.proofs.Reached.{reached_whole, reached_parsed}
 
 -- At most six estimates and this period.
@@ -101,6 +100,6 @@ all_taken holidays (c ∷ cs) room s r h =
       left = rw (is, length-append line (feeding holidays (room - length line) (ended holidays s) cs).output) (omega (arith, rest.left));
     })
     (λ e.
-    let rest = all_taken holidays cs room (kept s c) (rw (kept_account s c) r) (rw e at h) in
+    let rest = all_taken holidays cs room (kept s c) r (rw e at h) in
     let is = feed_keeps holidays room s c cs (eqb-false c line_feed e) in
     record { taken_all = ap (λ (f : Feeding). f.taken) is ∙ ap suc rest.taken_all; left = rw is rest.left })

@@ -8,8 +8,7 @@ use Rattle.audit.specs.Claim.{start, run, final_volume, unpaid_on}
 use Rattle.audit.specs.Book.{Book, prices}
 use Rattle.frames.specs.Digits.{line_feed}
 use Rattle.answers.specs.Answers.{answer_line}
-use Rattle.lines.specs.Feeding.{blank_line, kept_most, line_of, feeding}
-use Rattle.lines.specs.declared.State.{State}
+use Rattle.lines.specs.{declared.State.State, Begun.blank_line, Begun.kept_most, Feeding.line_of, Feeding.feeding}
 use Rattle.text.specs.{Lines.lines_of, Output.answers_of, Output.account_after, Output.calls_of}
 
 -- The lines that end in what came, behind the part of a line, and the part that it leaves.
@@ -28,9 +27,9 @@ made holidays came = joined answer_line (answers_of holidays new_account (lines_
 -- A state that keeps the first characters of a part of a line.
 pub record Holds (s : State) (part : List ℕ) : Type 0 where
   pub line_is : line_of s ≡ take kept_most part
-  pub length_is : s.length ≡ min (length part) kept_most
-  pub line_long : length s.line ≡ kept_most
-  pub clear : s.length ≡ 0 → s.line ≡ blank_line
+  pub length_is : s.line.length ≡ min (length part) kept_most
+  pub line_long : length s.line.characters ≡ kept_most
+  pub clear : s.line.length ≡ 0 → s.line.characters ≡ blank_line
 
 -- Where feeding stands: what was taken, and what was written for it.
 pub record Stands (holidays seen out : List ℕ) (s : State) : Type 0 where
@@ -45,7 +44,7 @@ Follows holidays seen s = Stands holidays seen (made holidays seen) s
 -- The state at the end of an input: the account is the one that all its lines leave, and no line has begun.
 pub record AtEnd (holidays input : List ℕ) (s : State) : Type 0 where
   pub account_is : s.account ≡ account_after holidays new_account (lines_of input)
-  pub none_begun : s.length ≡ 0
+  pub none_begun : s.line.length ≡ 0
 
 -- Of an input that was read no contract can name the bytes: a state that some input leads to, and one at the end of some input.
 pub record Behind (holidays : List ℕ) (s : State) : Type 0 where

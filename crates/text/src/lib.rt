@@ -1,7 +1,7 @@
 // From the bytes of a household's file to the bytes that the programs write.
 #![tactic(auto)]
 
-ghost use Rattle.std.specs.Prelude.{◌≡◌, true, false, cond, ◌+◌, ◌*◌, ◌≤◌, length};
+ghost use Rattle.std.specs.Prelude.{◌≡◌, ◌+◌, ◌*◌, ◌≤◌, length};
 ghost use Rattle.account.specs.Calls.{new_account};
 ghost use Rattle.frames.specs.Digits.{written};
 ghost use Rattle.answers.specs.Answers.{longest_answer};
@@ -27,6 +27,15 @@ pub struct Billed {
 // No file is longer.
 const LONGEST_INPUT: usize = 281_474_976_710_656;
 
+// What is returned for a longer one in place of a size.
+const TOO_LONG: usize = usize::MAX;
+
+// Line ends are counted in blocks of so many bytes.
+const COUNTED_BLOCK: usize = 240;
+
+// What is fed at a time writes at most so much.
+const OUTPUT_PART: usize = 4096;
+
 // What `bill` writes for an input, and its size; where out is too short for it, nothing is written. Where there is room for the longest
 // answer to each line it is written as it is worked, and else measured first.
 pub fn write_bill(input: &[u8], holidays: &[u16], out: &mut [u8]) -> usize
@@ -35,14 +44,14 @@ pub fn write_bill(input: &[u8], holidays: &[u16], out: &mut [u8]) -> usize
     ensures sums { Sums holidays.now (lines_of input.now) }
 {
     if input.len() > LONGEST_INPUT {
-        return 18_446_744_073_709_551_615;
+        return TOO_LONG;
     }
     if LONGEST_ANSWER * (count_ends(input) + 1) <= out.len() {
         return write_at_once(input, holidays, out);
     }
-    let measured = work_input(input, holidays, out, false);
+    let measured = work_input(input, holidays, &mut []);
     if measured.size <= out.len() {
-        work_input(input, holidays, out, true);
+        work_input(input, holidays, out);
     }
     measured.size
 }
@@ -53,25 +62,18 @@ fn count_ends(input: &[u8]) -> usize
     ensures upper_bound { result ≤ length input.now }
 {
     let mut ends = 0;
-    for block in input.chunks(240) {
+    for block in input.chunks(COUNTED_BLOCK) {
         ends += usize::from(ends_in_block(block));
     }
     ends
 }
 
-#[tactic(auto, using(crate::proofs::Lines::ends_here, crate::proofs::Lines::ends_later))]
+#[tactic(auto, using(crate::proofs::Lines::ends_are_summed, crate::proofs::Lines::ends_most))]
 fn ends_in_block(block: &[u8]) -> u8
     requires { length block.now ≤ 240 }
-    ensures value { result ≡ ends_in block.now }
-    ensures upper_bound { result ≤ length block.now }
+    ensures { result ≡ ends_in block.now }
 {
-    let mut ends = 0u8;
-    for byte in block {
-        if *byte == b'\n' {
-            ends += 1;
-        }
-    }
-    ends
+    block.iter().map(|byte| u8::from(*byte == b'\n')).sum()
 }
 
 // What `bill` writes, written as the input is worked, and its size.
@@ -82,13 +84,10 @@ fn write_at_once(input: &[u8], holidays: &[u16], out: &mut [u8]) -> usize
     ensures out_after { out.new ≡ written out.old 0 (bill holidays.now input.now) }
 {
     let fed = feeding::feed(State::new(), holidays, input, out);
-    let filled = fed.written;
-    let state = fed.state;
     let mut space = [0u8; LONGEST_ANSWER];
-    let last = feeding::finish(state, holidays, &mut space);
-    let more = last.written;
-    put_part(&space[..more], out, filled, true);
-    filled + more
+    let last = feeding::finish(fed.state, holidays, &mut space);
+    put_part(&space[..last.written], out, fed.written);
+    fed.written + last.written
 }
 
 // What `notice` writes for an input, and its size; where out is too short for it, nothing is written.
@@ -97,51 +96,49 @@ pub fn write_notice(input: &[u8], holidays: &[u16], out: &mut [u8]) -> usize
     ensures out_after { out.new ≡ worked input.now out.old (notice holidays.now input.now) }
 {
     if input.len() > LONGEST_INPUT {
-        return 18_446_744_073_709_551_615;
+        return TOO_LONG;
     }
-    let worked = work_input(input, holidays, out, false);
-    let account = worked.account;
-    put_notices(account, out)
+    let worked = work_input(input, holidays, &mut []);
+    put_notices(worked.account, out)
 }
 
-// Works an input to its end, and writes what `bill` writes if that is asked.
-fn work_input(input: &[u8], holidays: &[u16], out: &mut [u8], writing: bool) -> Billed
-    requires input_len_bound { length input.now ≤ longest_input }
-    requires input_in_bounds { writing ≡ true → length (bill holidays.now input.now) ≤ length out.old }
+// Works an input to its end, and puts each part of what `bill` writes in out as it is made. Lent an empty slice, where only a part
+// with no bytes fits, it measures.
+fn work_input(input: &[u8], holidays: &[u16], out: &mut [u8]) -> Billed
+    requires { length input.now ≤ longest_input }
     ensures value { result ≡ record {
       account = account_after holidays.now new_account (lines_of input.now);
       size = length (bill holidays.now input.now);
     } }
-    ensures out_after { out.new ≡
-        cond writing (written out.old 0 (bill holidays.now input.now)) out.old }
+    ensures out_after { length (bill holidays.now input.now) ≤ length out.old
+        → out.new ≡ written out.old 0 (bill holidays.now input.now) }
 {
     let mut state = State::new();
-    let mut space = [0u8; 4096];
+    let mut space = [0u8; OUTPUT_PART];
     let mut taken: usize = 0;
     let mut size: usize = 0;
     while taken < input.len() {
         let fed = feeding::feed(state, holidays, &input[taken..], &mut space);
-        let filled = fed.written;
-        put_part(&space[..filled], out, size, writing);
+        put_part(&space[..fed.written], out, size);
         state = fed.state;
         taken += fed.taken;
-        size += filled;
+        size += fed.written;
     }
     let last = feeding::finish(state, holidays, &mut space);
-    let filled = last.written;
-    put_part(&space[..filled], out, size, writing);
-    size += filled;
-    let end = last.state;
-    let account = end.account;
-    Billed { account, size }
+    put_part(&space[..last.written], out, size);
+    size += last.written;
+    Billed {
+        account: last.state.account,
+        size,
+    }
 }
 
-// A part of the output, at its place, if it is to be written. It looks at the room that is left, and trusts no size measured before:
+// A part of the output, at its place, where it fits there. It looks at the room that is left, and trusts no size measured before:
 // a caller in another language may have changed the input since.
-fn put_part(part: &[u8], out: &mut [u8], at: usize, writing: bool)
-    ensures { out.new ≡ cond writing (fitted_at out.old at part.now) out.old }
+fn put_part(part: &[u8], out: &mut [u8], at: usize)
+    ensures { out.new ≡ fitted_at out.old at part.now }
 {
-    if writing && at <= out.len() && part.len() <= out.len() - at {
+    if at <= out.len() && part.len() <= out.len() - at {
         out[at..at + part.len()].copy_from_slice(part);
     }
 }

@@ -4,7 +4,7 @@ use Rattle.calendar.specs.Conversions.{to_date}
 use Rattle.answers.specs.Notices.{kind_number, notice_line}
 use Rattle.frames.specs.Digits.{line_feed}
 use Rattle.frames.proofs.Digits.{length_digits}
-use Rattle.answers.proofs.Writing.{put_first, put_more, put_last, put_all, length_date}
+use Rattle.answers.proofs.Writing.{put_first, put_more, put_last, put_written, length_date}
 use Rattle.answers.proofs.put_notice.Goals as goal
 
 pub returns : goal.returns
@@ -15,4 +15,4 @@ returns c =
     let obligation = put_more kind (length_date (to_date item.obligation)) c.put_date.ensures in
     let due = put_more obligation (length_date (to_date item.due)) c.put_date-2.ensures in
     let unpaid = put_more due (length_digits 16 16 item.unpaid) c.put_bytes-2.ensures in
-    put_all (put_last unpaid line_feed (omega arith)) c.requires
+    put_written (put_last unpaid line_feed (omega arith)) (omega arith)

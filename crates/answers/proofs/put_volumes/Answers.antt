@@ -1,16 +1,10 @@
 use Rattle.common.proofs.Words.{arith}
 use Rattle.frames.specs.Digits.{bytes}
 use Rattle.frames.proofs.Digits.{length_digits}
-use Rattle.answers.proofs.Writing.{put_none, put_next, put_listed}
+use Rattle.answers.proofs.Writing.{put_next}
 use Rattle.answers.proofs.put_volumes.Goals as goal
-
-pub loop-i-init : goal.loop-i-init
-loop-i-init c = put_none c.args.out.now
 
 pub loop-i-preserved : goal.loop-i-preserved
 loop-i-preserved c =
     put_next (bytes 4) 8 (length_digits 16 8) c.args.volumes.now c.loop-i.i 0 c.loop-i-test.true c.loop-i.invariant
     (rw c.from.ensures at c.put_bytes.ensures) (omega arith)
-
-pub returns : goal.returns
-returns c = put_listed (bytes 4) 8 (length_digits 16 8) c.args.volumes.now (omega arith) c.loop-i.invariant c.requires

@@ -8,24 +8,24 @@ use Rattle.feeding.proofs.feed_lines.Goals.{in-NoFrame, in-Frame, else-loop-take
 
 accepted : (c : In-Ok)
     → Turned c.args.holidays.days.now
-    (desk_of c.loop-taken.head c.loop-taken.desk.estimates c.loop-taken.desk.items c.loop-taken.length c.loop-taken.desk.line)
+    (desk_of c.loop-taken.head c.loop-taken.desk.estimates c.loop-taken.desk.items c.loop-taken.desk.line)
     c.next_line-found.result.next c.next_line-found.new.line c.match-found.worked c.match-found.desk c.match-found.volumes
 accepted c = elim c.match-found.branch [
   | in-NoFrame w ↦ absurd (let never = sym c.in-Ok.is ∙ w.worked-is in cc)
   | in-Frame w ↦
       let comes = rw (w.from.ensures, ← w.worked-is, ← w.volumes-is) at w.work_call-worked.ensures in
-      call_turned c.args.holidays.allowed w.in-Frame.frame w.in-Frame.is _ _ _ w.desk-is comes
+      call_turned c.args.holidays.allowed w.in-Frame.frame w.in-Frame.is _ _ w.desk-is comes
 ]
 
 refused : (c : In-Err)
     → Turned c.args.holidays.days.now
-    (desk_of c.loop-taken.head c.loop-taken.desk.estimates c.loop-taken.desk.items c.loop-taken.length c.loop-taken.desk.line)
+    (desk_of c.loop-taken.head c.loop-taken.desk.estimates c.loop-taken.desk.items c.loop-taken.desk.line)
     c.next_line-found.result.next c.next_line-found.new.line c.match-found.worked c.match-found.desk c.match-found.volumes
 refused c = elim c.match-found.branch [
-  | in-NoFrame w ↦ none_turned c.args.holidays.allowed w.in-NoFrame.is w.worked-is _ _ w.desk-is
+  | in-NoFrame w ↦ none_turned c.args.holidays.allowed w.in-NoFrame.is w.worked-is _ w.desk-is
   | in-Frame w ↦
       let comes = rw (w.from.ensures, ← w.worked-is, ← w.volumes-is) at w.work_call-worked.ensures in
-      call_turned c.args.holidays.allowed w.in-Frame.frame w.in-Frame.is _ _ _ w.desk-is comes
+      call_turned c.args.holidays.allowed w.in-Frame.frame w.in-Frame.is _ _ w.desk-is comes
 ]
 
 pub loop-taken-preserved-then-head-desk : goal.loop-taken-preserved-then-head-desk
@@ -55,8 +55,8 @@ loop-taken-preserved c =
 pub returns : goal.returns
 returns c = elim c.loop-taken-test.branch [
   | else-loop-taken-test w ↦
-      rw (w.desk-is, w.length-is, w.taken-is) (running_ended c.args.desk.now c.loop-taken.invariant w.loop-taken-test.false)
+      rw (w.desk-is, w.taken-is) (running_ended c.args.desk.now c.loop-taken.invariant w.loop-taken-test.false)
   | then-loop-taken-test+in-Waits w ↦
-      rw (w.desk-is, w.length-is, w.taken-is)
+      rw (w.desk-is, w.taken-is)
       (running_waits c.args.desk.now c.loop-taken.invariant w.next_line-found.ensures (ap read_as w.in-Waits.is))
 ]

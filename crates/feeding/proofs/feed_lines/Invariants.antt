@@ -7,7 +7,7 @@ use Rattle.feeding.proofs.feed_lines.Given as goal
 abbrev pub invariant-loop-taken : goal.invariant-loop-taken
 invariant-loop-taken l =
     Running l.holidays.days.now l.input l.fn.out (state_on l.fn.desk)
-    (desk_of l.head l.desk.estimates l.desk.items l.length l.desk.line) l.out (went_to l.taken l.written)
+    (desk_of l.head l.desk.estimates l.desk.items l.desk.line) l.out (went_to l.taken l.written)
 
 abbrev pub decreases-loop-taken : goal.decreases-loop-taken
 decreases-loop-taken l = length l.input - l.taken

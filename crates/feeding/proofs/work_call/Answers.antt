@@ -8,11 +8,11 @@ use Rattle.feeding.proofs.work_call.Goals as goal
 pub standing-requires : goal.standing-requires
 standing-requires c = (lain_estimates c.requires).few
 
-pub plan_with-requires-clause-head_bounds : goal.plan_with-requires-clause-head_bounds
-plan_with-requires-clause-head_bounds c = lain_bounds c.requires
+pub invariant_of-billing-clause-head_bounds : goal.invariant_of-billing-clause-head_bounds
+invariant_of-billing-clause-head_bounds c = lain_bounds c.requires
 
-pub plan_with-requires-clause-standing_bounds : goal.plan_with-requires-clause-standing_bounds
-plan_with-requires-clause-standing_bounds c = rw c.standing.ensures (lain_standing c.requires)
+pub invariant_of-billing-clause-standing_bounds : goal.invariant_of-billing-clause-standing_bounds
+invariant_of-billing-clause-standing_bounds c = rw c.standing.ensures (lain_standing c.requires)
 
 pub returns-in_err-plan : goal.returns-in_err-plan
 returns-in_err-plan c =

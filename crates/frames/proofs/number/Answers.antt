@@ -1,7 +1,7 @@
 -- Eight digits fit 64 bits (`cap_within`). What is read is below 2 ^ 32 where all characters are digits, and nowhere else.
 use Rattle.common.proofs.Words.{ap, ◌∙◌, arith, add-one, take_all}
 use Rattle.frames.specs.Digits.{value_or, read_of}
-use Rattle.frames.proofs.Digits.{cap_within, cap_next, read_suc, value_most, number_found, number_bound, number_missing}
+use Rattle.frames.proofs.Digits.{cap_within, cap_next, read_suc, value_most, number_held, held_bound}
 use Rattle.frames.proofs.number.Goals as goal
 
 pub overflow_mul-n : goal.overflow_mul-n
@@ -21,17 +21,12 @@ loop-digit-preserved c =
       most = rw (add-one i, c.value.ensures) (cap_next c.loop-digit.n (value_or _) i c.loop-digit.invariant.most (value_most _));
     }
 
-pub returns-then-n-lt-NO_DIGIT-clause-value : goal.returns-then-n-lt-NO_DIGIT-clause-value
-returns-then-n-lt-NO_DIGIT-clause-value c =
+pub returns-clause-value : goal.returns-clause-value
+returns-clause-value c =
     let read = c.loop-digit.invariant.read ∙ ap read_of (take_all c.loop-digit.digit-index c.args.digits.now c.loop-digit-test.false) in
-    rw read (number_found c.args.digits.now (omega arith))
+    c.ok.ensures.value ∙ number_held c.args.digits.now c.try_from.result (rw read at c.try_from.ensures) c.requires
 
-pub returns-then-n-lt-NO_DIGIT-clause-bound : goal.returns-then-n-lt-NO_DIGIT-clause-bound
-returns-then-n-lt-NO_DIGIT-clause-bound c =
+pub returns-clause-bound : goal.returns-clause-bound
+returns-clause-bound c =
     let read = c.loop-digit.invariant.read ∙ ap read_of (take_all c.loop-digit.digit-index c.args.digits.now c.loop-digit-test.false) in
-    rw read (number_bound c.args.digits.now (omega arith))
-
-pub returns-else-n-lt-NO_DIGIT-clause-value : goal.returns-else-n-lt-NO_DIGIT-clause-value
-returns-else-n-lt-NO_DIGIT-clause-value c =
-    let read = c.loop-digit.invariant.read ∙ ap read_of (take_all c.loop-digit.digit-index c.args.digits.now c.loop-digit-test.false) in
-    number_missing c.args.digits.now c.requires (omega arith)
+    rw c.ok.ensures.value (held_bound c.args.digits.now c.try_from.result (rw read at c.try_from.ensures))

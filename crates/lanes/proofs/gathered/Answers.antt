@@ -5,7 +5,7 @@ use Rattle.lanes.proofs.gathered.Goals as goal
 
 pub returns : goal.returns
 returns c =
-    let e = c.default-items.ensures in
-    let is : c.default-items.result ≡ blank =
+    let e = c.default-places.ensures in
+    let is : c.default-places.result ≡ blank =
     λ i. record { amount = e.0 i; unpaid = e.1.0 i; obligation = e.1.1.0 i; due = e.1.1.1.0 i; kind = e.1.1.1.1 i } in
-    rw c.copy_from_slice.ensures.after (padded capacity c.args.open.now is)
+    rw c.copy_from_slice.ensures.after (padded capacity c.args.items.now is)

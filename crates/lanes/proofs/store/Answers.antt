@@ -13,11 +13,11 @@ post-requires c = omega (arith, taken_up_most c.args.settled.held.unpaid, taken_
 pub returns-clause-lie : goal.returns-clause-lie
 returns-clause-lie c =
     let a = c.args in
-    let staying = a.end - a.oldest in
+    let staying = a.end - a.settled.queue.front in
     let second = staying + taken_up a.settled.held.unpaid in
-    let inside : a.oldest < length a.places.now = omega arith in
-    let third-lie = c.post.ensures.lie a.oldest (second + taken_up a.settled.charge.unpaid) (omega arith) in
-    let second-lie = c.post-third.ensures.lie a.oldest second (omega arith) in
-    let first-lie = c.post-second.ensures.lie a.oldest staying (omega arith) in
-    let oldest-lie = part_oldest a.oldest staying a.settled.paid a.places.now inside in
+    let inside : a.settled.queue.front < length a.places.now = omega arith in
+    let third-lie = c.post.ensures.lie a.settled.queue.front (second + taken_up a.settled.charge.unpaid) (omega arith) in
+    let second-lie = c.post-third.ensures.lie a.settled.queue.front second (omega arith) in
+    let first-lie = c.post-second.ensures.lie a.settled.queue.front staying (omega arith) in
+    let oldest-lie = part_oldest a.settled.queue.front staying a.settled.paid a.places.now inside in
     cc

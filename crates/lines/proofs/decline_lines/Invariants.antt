@@ -4,7 +4,7 @@ use Rattle.lines.proofs.Declining.{Declining}
 use Rattle.lines.proofs.decline_lines.Given as goal
 
 abbrev pub invariant-loop-taken : goal.invariant-loop-taken
-invariant-loop-taken l = Declining l.input l.fn.out l.fn.state l.length l.taken l.written l.line l.out
+invariant-loop-taken l = Declining l.input l.fn.out l.fn.state l.taken l.written l.line l.out
 
 abbrev pub decreases-loop-taken : goal.decreases-loop-taken
 decreases-loop-taken l = length l.input - l.taken

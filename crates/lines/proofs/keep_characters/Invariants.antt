@@ -1,7 +1,6 @@
-use Rattle.std.proofs.Common.{◌≡◌, ◌+◌}
+use Rattle.std.proofs.Common.{◌+◌}
 use Rattle.lines.proofs.Going.{Keeping}
 use Rattle.lines.proofs.keep_characters.Given as goal
 
-abbrev pub invariant-loop-character : goal.invariant-loop-character
-invariant-loop-character l =
-    record { at : l.taken ≡ l.fn.from + l.character-index; keeping : Keeping l.input l.fn.from l.fn.begun l.fn.line l.taken l.length l.line }
+abbrev pub invariant-loop-i : goal.invariant-loop-i
+invariant-loop-i l = Keeping l.input l.fn.from l.fn.line (l.fn.from + l.i) l.line

@@ -4,4 +4,4 @@ use Rattle.lines.proofs.Going.{found_frame}
 use Rattle.lines.proofs.next_line.Goals as goal
 
 pub returns-in-Some : goal.returns-in-Some
-returns-in-Some c = found_frame c.if-begun-eq0.true (c.requires.blank c.if-begun-eq0.true) c.in-Some.ensures (omega arith)
+returns-in-Some c = found_frame (c.is_begun.ensures.none (cc)) c.in-Some.ensures (omega arith)

@@ -17,9 +17,6 @@ size_is c =
     let ledger = c.args.account.ledger in
     omega (arith, notices_length ledger.count ledger.items (items_long c), c.min-shown.ensures)
 
-pub returns-then-size-out-clause-value : goal.returns-then-size-out-clause-value
-returns-then-size-out-clause-value c = size_is (goal.at.returns-then-size-out-clause-value c).After-min-shown
-
 pub returns-then-size-out-clause-out_after : goal.returns-then-size-out-clause-out_after
 returns-then-size-out-clause-out_after c =
     let began = (goal.at.returns-then-size-out-clause-out_after c).After-min-shown in

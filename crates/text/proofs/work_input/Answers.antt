@@ -1,13 +1,13 @@
--- Each piece's output goes behind what stands in `out` if it is to be written; all of the output fits there, so each piece's does (`fits`).
+-- Each piece's output goes behind what stands in `out`, where it fits there; where all of the output does, each piece's does.
 -- One piece is `working_on`, the end of the input `working_end`.
-use Rattle.common.proofs.Words.{◌≡◌, refl, ap, ◌∙◌, true, List, ℕ, ◌+◌, ◌-◌, ◌≤◌, arith, length, take, drop, length-drop}
+use Rattle.common.proofs.Words.{◌≡◌, refl, ap, ◌∙◌, List, ℕ, ◌+◌, ◌-◌, ◌≤◌, arith, length, take, drop, length-drop}
 use Rattle.common.proofs.Words.{take_all}
 use Rattle.frames.specs.Digits.{written}
 use Rattle.answers.specs.Answers.{longest_answer}
 use Rattle.lines.specs.Feeding.{Feeding, feeding, finishing, fed_of}
 use Rattle.lines.specs.declared.Fed.{Fed}
 use Rattle.lines.proofs.Feeding.{taken_some}
-use Rattle.text.proofs.Working.{shown, Lent, space_same, front_put, made_within, working_start, working_on, working_end, Worked}
+use Rattle.text.proofs.Working.{Lent, space_same, front_put, working_start, working_on, working_end, Worked}
 use Rattle.text.proofs.Pieces.{behind_ready}
 use Rattle.text.proofs.work_input.Goals as goal
 use Rattle.text.proofs.work_input.Goals.{After-feed-fed, After-finish-last}
@@ -46,13 +46,6 @@ module _ (c : After-feed-fed) where
   taken_most : c.loop-taken.taken + c.feed-fed.result.taken ≤ length c.args.input.now
   taken_most = omega (arith, length-drop c.loop-taken.taken c.args.input.now, c.feed-fed.ensures.taken_in_bounds.0, c.loop-taken-test.true)
 
-  fits : c.args.writing ≡ true → c.loop-taken.size + length fed.output ≤ length c.loop-taken.out
-  fits asked =
-      let out = shown c.args.writing c.loop-taken.out c.loop-taken.size fed.output in
-      let w = working_on c.loop-taken.invariant.working (length c.loop-taken.space) {out' = out} refl in
-      let within = made_within c.args.holidays.now c.args.input.now (c.loop-taken.taken + fed.taken) in
-      omega (arith, w.size_is, within, c.requires.input_in_bounds asked, c.loop-taken.invariant.out_long)
-
 -- The end is made.
 module _ (c : After-finish-last) where
   abbrev last : Feeding
@@ -69,16 +62,10 @@ module _ (c : After-finish-last) where
   enough : longest_answer ≤ length c.loop-taken.space
   enough = omega (arith, c.loop-taken.invariant.space_long)
 
-  last_fits : c.args.writing ≡ true → c.loop-taken.size + length last.output ≤ length c.loop-taken.out
-  last_fits asked =
-      let out = shown c.args.writing c.loop-taken.out c.loop-taken.size last.output in
-      let w = working_end c.loop-taken.invariant.working (length c.loop-taken.space) {out' = out} enough c.loop-taken-test.false refl in
-      omega (arith, w.size_is, c.requires.input_in_bounds asked, c.loop-taken.invariant.out_long)
-
-  worked : {out : List ℕ} → out ≡ shown c.args.writing c.loop-taken.out c.loop-taken.size last.output
-      → Worked c.args.holidays.now c.args.input.now c.args.out.now c.args.writing out last.state.account
-      (c.loop-taken.size + length last.output)
-  worked = working_end c.loop-taken.invariant.working (length c.loop-taken.space) enough c.loop-taken-test.false
+  worked : {out : List ℕ} → (c.loop-taken.size + length last.output ≤ length c.loop-taken.out → out ≡ written c.loop-taken.out c.loop-taken.size last.output)
+      → Worked c.args.holidays.now c.args.input.now c.args.out.now out last.state.account (c.loop-taken.size + length last.output)
+  worked =
+      working_end c.loop-taken.invariant.working (length c.loop-taken.space) c.loop-taken.invariant.out_long enough c.loop-taken-test.false
 
 pub loop-taken-init : goal.loop-taken-init
 loop-taken-init c =
@@ -87,7 +74,7 @@ loop-taken-init c =
       out_long = refl;
       space_long = refl;
       size_most = omega arith;
-      working = rw c.new-state.ensures (working_start c.args.holidays.now c.args.input.now c.args.out.now c.args.writing);
+      working = rw c.new-state.ensures (working_start c.args.holidays.now c.args.input.now c.args.out.now);
     }
 
 pub feed-fed-requires : goal.feed-fed-requires
@@ -103,13 +90,13 @@ pub loop-taken-preserved : goal.loop-taken-preserved
 loop-taken-preserved c =
     let f = (goal.at.loop-taken-preserved c).After-feed-fed in
     let i = c.loop-taken.invariant in
-    let out_is = front_put (made f) c.args.writing c.loop-taken.out c.loop-taken.size (fits f) c.put_part.ensures in
+    let put = front_put (made f) c.loop-taken.out c.loop-taken.size c.put_part.ensures in
     record {
       within = taken_most f;
       out_long = c.put_part.auto.out ∙ i.out_long;
       space_long = space_same (made f) ∙ i.space_long;
       size_most = omega (arith, (made f).most, taken_more f, i.space_long, i.size_most);
-      working = rw (made f).result_is (working_on i.working (length c.loop-taken.space) out_is);
+      working = rw (made f).result_is (working_on i.working (length c.loop-taken.space) i.out_long put);
     }
 
 pub finish-last-requires : goal.finish-last-requires
@@ -119,10 +106,10 @@ finish-last-requires c =
 pub returns-clause-value : goal.returns-clause-value
 returns-clause-value c =
     let f = (goal.at.returns-clause-value c).After-finish-last in
-    let w = worked f (front_put (ended f) c.args.writing c.loop-taken.out c.loop-taken.size (last_fits f) c.put_part-2.ensures) in
+    let w = worked f (front_put (ended f) c.loop-taken.out c.loop-taken.size c.put_part-2.ensures) in
     rw ((ended f).result_is, w.account_is, w.size_is)
 
 pub returns-clause-out_after : goal.returns-clause-out_after
 returns-clause-out_after c =
     let f = (goal.at.returns-clause-out_after c).After-finish-last in
-    (worked f (front_put (ended f) c.args.writing c.loop-taken.out c.loop-taken.size (last_fits f) c.put_part-2.ensures)).out_is
+    (worked f (front_put (ended f) c.loop-taken.out c.loop-taken.size c.put_part-2.ensures)).out_is

@@ -10,7 +10,7 @@ invariant-loop-taken l =
       out_long : length l.out ≡ length l.initial.out;
       space_long : length l.space ≡ 4096;
       size_most : l.size ≤ 4096 * l.taken;
-      working : Working l.holidays l.input l.initial.out l.writing l.out l.state l.taken l.size;
+      working : Working l.holidays l.input l.initial.out l.out l.state l.taken l.size;
     }
 
 abbrev pub decreases-loop-taken : goal.decreases-loop-taken

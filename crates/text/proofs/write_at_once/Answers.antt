@@ -1,6 +1,6 @@
 -- The input is fed at once, and its end made beside `out` and put behind: there is room for both (`all_taken`), and together they are all
 -- that `bill` writes (`working_end`).
-use Rattle.common.proofs.Words.{◌≡◌, refl, sym, ap, subst, ◌∙◌, true, List, ℕ, ◌+◌, ◌≤◌, arith, length, replicate}
+use Rattle.common.proofs.Words.{◌≡◌, refl, sym, ap, subst, ◌∙◌, List, ℕ, ◌+◌, ◌≤◌, arith, length, replicate}
 use Rattle.frames.specs.Digits.{written}
 use Rattle.answers.specs.Answers.{longest_answer}
 use Rattle.lines.specs.Feeding.{fresh, Feeding, feeding, finishing, fed_of}
@@ -57,17 +57,17 @@ module _ (c : After-finish-last) where
   room = omega (arith, fits, c.feed-fed.auto.out, count_is made)
 
   worked : {end : List ℕ} → end ≡ written c.feed-fed.new.out c.feed-fed.result.written last.output
-      → Worked holidays c.args.input.now text true end last.state.account (0 + length fed.output + length last.output)
+      → Worked holidays c.args.input.now text end last.state.account (0 + length fed.output + length last.output)
   worked {end} e =
-      let w = working_on (working_start holidays c.args.input.now text true) (length text) out_is in
+      let w = working_on (working_start holidays c.args.input.now text) (length text) refl (λ z. out_is) in
       let place : c.feed-fed.result.written ≡ 0 + length fed.output = omega (arith, filled) in
       let behind = e ∙ ap (λ n. written c.feed-fed.new.out n last.output) place in
-      working_end w longest_answer (omega arith) (omega (arith, all.taken_all)) behind
+      working_end w longest_answer c.feed-fed.auto.out (omega arith) (omega (arith, all.taken_all)) (λ z. behind)
 
 pub feed-fed-requires : goal.feed-fed-requires
 feed-fed-requires c =
     let holidays = c.args.holidays.now in
-    subst (Ready holidays) (sym c.new.ensures) (record { reached = reached_new holidays; clear = λ z. refl })
+    subst (Ready holidays) (sym c.new.ensures) (reached_new holidays)
 
 pub returns-clause-value : goal.returns-clause-value
 returns-clause-value c =
@@ -81,5 +81,6 @@ returns-clause-upper_bound c = fits (goal.at.returns-clause-upper_bound c).After
 pub returns-clause-out_after : goal.returns-clause-out_after
 returns-clause-out_after c =
     let f = (goal.at.returns-clause-out_after c).After-finish-last in
-    let put = front_put (made f) true c.feed-fed.new.out c.feed-fed.result.written (λ z. room f) c.put_part.ensures in
-    (worked f put).out_is
+    let put = front_put (made f) c.feed-fed.new.out c.feed-fed.result.written c.put_part.ensures (room f) in
+    let w = worked f put in
+    w.out_is (omega (arith, w.size_is, filled f, count_is (made f), fits f))

@@ -1,6 +1,6 @@
--- The input is worked, which leaves `out` as it was, and then the notices of its account are put.
-use Rattle.common.proofs.Words.{◌≡◌, ap, ◌∙◌, length, le-leb}
-use Rattle.text.specs.Output.{open_notices, notice, longest_input, fitted}
+-- The input is worked, and then the notices of its account are put.
+use Rattle.common.proofs.Words.{◌≡◌, ap, length, le-leb}
+use Rattle.text.specs.Output.{open_notices, notice, longest_input}
 use Rattle.text.specs.declared.Billed.{Billed}
 use Rattle.text.proofs.write_notice.Goals as goal
 use Rattle.text.proofs.write_notice.Goals.{After-work_input-worked}
@@ -18,5 +18,4 @@ returns-clause-value c =
 pub returns-clause-out_after : goal.returns-clause-out_after
 returns-clause-out_after c =
     let is = notice_is (goal.at.returns-clause-out_after c).After-work_input-worked in
-    let same = ap (λ place. fitted place (open_notices c.work_input-worked.result.account)) c.work_input-worked.ensures.out_after in
-    rw (le-leb (length c.args.input.now) longest_input c.if-input-gt-LONGEST_INPUT.false, ← is) (c.put_notices.ensures.out_after ∙ same)
+    rw (le-leb (length c.args.input.now) longest_input c.if-input-gt-LONGEST_INPUT.false, ← is) c.put_notices.ensures.out_after

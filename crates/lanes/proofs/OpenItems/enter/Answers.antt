@@ -5,7 +5,7 @@ use Rattle.ledger.specs.Entries.{asked, number_of, interest_posted}
 use Rattle.ledger.specs.Numbers.{settled_number, settled_by}
 use Rattle.ledger.specs.declared.numbers.Settled.{Settled}
 use Rattle.ledger.proofs.Queues.{Entering, Settling, settle_bounds, refusal_is, covered_within, oldest_within, after_stands, after_lies}
-use Rattle.ledger.proofs.Queues.{few_after, interest_is, interest_fits, next_asked, next_same}
+use Rattle.ledger.proofs.Queues.{few_after, front_is, interest_is, interest_fits, next_asked, next_same}
 use Rattle.lanes.proofs.Places.{between}
 use Rattle.lanes.proofs.OpenItems.enter.Goals as goal
 use Rattle.lanes.proofs.OpenItems.enter.Goals.{After-cover-cover}
@@ -23,7 +23,7 @@ module _ (c : After-cover-cover) where
         within = rw c.self.view_is c.requires.within;
         room = c.self.invariant.room;
         bounds = c.requires.bounds;
-        covers = rw between at c.cover-cover.ensures;
+        covers = rw (c.end-end.ensures, between) at c.cover-cover.ensures;
       }
 
   refusal : settled_number c.self.inside.queue c.args.entry c.cover-cover.result
@@ -47,20 +47,16 @@ returns-in_err-settled-clause-stands c =
     let some = number_some c.in_err-settled.field-0.0 in
     sym (next_same c.args.holidays.days.now c.args.entry c.args.self.now (λ z. omega arith))
 
-pub overflow_add-queue-2 : goal.overflow_add-queue-2
-overflow_add-queue-2 c =
-    let begun = (goal.at.overflow_add-queue-2 c).After-cover-cover in
-    record { fits = omega (arith, covered_within (entering begun), c.self.invariant.room) }
-
 pub store-requires : goal.store-requires
 store-requires c =
     let k = settling (goal.at.store-requires c).After-cover-cover c.in_ok-settled.ensures.settled in
-    record { in_order = omega (arith, covered_within k.entering); room = c.self.invariant.room; owes = oldest_within k }
+    rw (front_is k, c.end-end.ensures)
+    (record { in_order = omega (arith, covered_within k.entering); room = c.self.invariant.room; owes = oldest_within k })
 
 pub make_room-self-inside-requires-clause-lies : goal.make_room-self-inside-requires-clause-lies
 make_room-self-inside-requires-clause-lies c =
     let k = settling (goal.at.make_room-self-inside-requires-clause-lies c).After-cover-cover c.in_ok-settled.ensures.settled in
-    after_lies k c.store.new.places c.store.ensures.long (rw c.due_day-due.ensures at c.store.ensures.lie)
+    after_lies k c.store.new.places c.store.ensures.long (rw (c.due_day-due.ensures, c.end-end.ensures, front_is k) at c.store.ensures.lie)
 
 pub make_room-self-inside-requires-clause-few : goal.make_room-self-inside-requires-clause-few
 make_room-self-inside-requires-clause-few c =
@@ -80,7 +76,7 @@ returns-clause-stands c =
     let begun = (goal.at.returns-clause-stands c).After-cover-cover in
     let k = settling begun c.in_ok-settled.ensures.settled in
     let accepted = c.in_ok-settled.ensures.number ∙ refusal begun in
-    let stored = after_stands k c.store.new.places (rw c.due_day-due.ensures at c.store.ensures.lie) in
+    let stored = after_stands k c.store.new.places (rw (c.due_day-due.ensures, c.end-end.ensures, front_is k) at c.store.ensures.lie) in
     c.make_room-self-inside.ensures.stands ∙ rw c.self.view_is at stored ∙
     sym (next_asked c.args.holidays.days.now c.args.entry c.args.self.now (sym accepted))
 

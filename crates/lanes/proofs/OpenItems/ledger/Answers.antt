@@ -1,12 +1,6 @@
-use Rattle.std.proofs.Common.{arith}
-use Rattle.common.proofs.Words.{length-take}
-use Rattle.ledger.specs.declared.Item.{Item}
 use Rattle.ledger.proofs.Queues.{gathered_is}
 use Rattle.lanes.proofs.Places.{between}
 use Rattle.lanes.proofs.OpenItems.ledger.Goals as goal
-
-pub gathered-requires : goal.gathered-requires
-gathered-requires c = omega (arith, length-take {A = Item}, c.self.invariant.few)
 
 pub returns : goal.returns
 returns c =

@@ -1,0 +1,12 @@
+use Rattle.std.proofs.Common.{◌∙◌, sym, rules}
+use Rattle.std.proofs.lemmas.Iterator.{YieldsList-from_slice}
+use Rattle.std.proofs.lemmas.Iterator.Search.{all_from_yields_List}
+use Rattle.account.specs.Whole.{whole_item}
+use Rattle.lists.proofs.Every.{every_is_all}
+use Rattle.account.proofs.whole.whole_items.Goals as goal
+
+pub returns : goal.returns
+returns c =
+    all_from_yields_List (whole_item c.args.latest) _ _ _ c.all.ensures.ran (YieldsList-from_slice c.args.items.now cc)
+    (λ x b q k. search rules) ∙
+    sym (every_is_all (whole_item c.args.latest) c.args.items.now)
