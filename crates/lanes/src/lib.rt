@@ -3,6 +3,8 @@
 
 ghost use Rattle.std.specs.Prelude.{◌≡◌, ◌++◌, ℕ, ◌+◌, ◌-◌, ◌≤◌, ◌<◌, length, IfOk};
 ghost use Rattle.common.specs.Refusals.{told};
+ghost use Rattle.duedays.specs.Limits.{last_call_day};
+ghost use Rattle.duedays.specs.DueDays.{due_day};
 ghost use Rattle.lists.specs.Pad.{pad};
 ghost use Rattle.ledger.specs.Limits.{capacity, lane_places};
 ghost use Rattle.ledger.specs.Settling.{unpaid_of};
@@ -89,8 +91,7 @@ impl OpenItems {
             queue.credit + entry.money,
         );
         let settled = settle_numbers(queue, entry, cover)?;
-        let due = holidays.due_day(entry.day);
-        store(&mut self.places, end, due, entry.day, settled);
+        store(&mut self.places, end, holidays, entry.day, settled);
         self.queue = make_room(&mut self.places, settled.queue);
         Ok(settled.held.sum + settled.arisen.sum)
     }
@@ -128,16 +129,23 @@ fn cover(items: &[Item], day: u16, money: u64) -> Coverage
 }
 
 // What is settled, stored: the oldest item that stays is paid a part, and what is posted goes behind the last.
-fn store(places: &mut [Item; LANE_PLACES], end: usize, due: u16, day: u16, settled: Settled)
-    requires { Storable places.old settled.queue.front end settled }
+fn store(
+    places: &mut [Item; LANE_PLACES],
+    end: usize,
+    holidays: Holidays<'_>,
+    day: u16,
+    settled: Settled,
+)
+    requires storable { Storable places.old settled.queue.front end settled }
+    requires called { day ≤ last_call_day }
     ensures long { length places.new ≡ lane_places }
     ensures lie { part settled.queue.front (with_posted settled (end - settled.queue.front)) places.new ≡
-        items_after due day settled (part settled.queue.front (end - settled.queue.front) places.old) }
+        items_after (due_day holidays.entry.days.now day) day settled (part settled.queue.front (end - settled.queue.front) places.old) }
 {
     places[settled.queue.front].unpaid -= settled.paid;
-    let second = post(places, end, due, Kind::Interest, day, settled.held);
-    let third = post(places, second, due, Kind::Price, day, settled.charge);
-    post(places, third, due, Kind::Interest, day, settled.arisen);
+    let second = post(places, end, holidays, Kind::Interest, day, settled.held);
+    let third = post(places, second, holidays, Kind::Price, day, settled.charge);
+    post(places, third, holidays, Kind::Interest, day, settled.arisen);
 }
 
 // A sum posted at a place if something of it stays unpaid, and the place behind it.
@@ -145,16 +153,17 @@ fn store(places: &mut [Item; LANE_PLACES], end: usize, due: u16, day: u16, settl
 fn post(
     places: &mut [Item; LANE_PLACES],
     at: usize,
-    due: u16,
+    holidays: Holidays<'_>,
     kind: Kind,
     day: u16,
     amount: Posted,
 ) -> usize
-    requires { at < lane_places }
+    requires room { at < lane_places }
+    requires called { day ≤ last_call_day }
     ensures end { result ≡ at + taken_up amount.unpaid }
     ensures lie { (front count : ℕ) → front + count ≡ at
         → part front (count + taken_up amount.unpaid) places.new ≡
-        part front count places.old ++ posted due kind day amount.sum amount.unpaid }
+        part front count places.old ++ posted (due_day holidays.entry.days.now day) kind day amount.sum amount.unpaid }
 {
     if amount.unpaid == 0 {
         return at;
@@ -163,7 +172,7 @@ fn post(
         amount: amount.sum,
         unpaid: amount.unpaid,
         obligation: day,
-        due,
+        due: holidays.due_day(day),
         kind,
     };
     at + 1

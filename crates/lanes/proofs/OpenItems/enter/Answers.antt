@@ -47,16 +47,16 @@ returns-in_err-settled-clause-stands c =
     let some = number_some c.in_err-settled.field-0.0 in
     sym (next_same c.args.holidays.days.now c.args.entry c.args.self.now (λ z. omega arith))
 
-pub store-requires : goal.store-requires
-store-requires c =
-    let k = settling (goal.at.store-requires c).After-cover-cover c.in_ok-settled.ensures.settled in
+pub store-requires-clause-storable : goal.store-requires-clause-storable
+store-requires-clause-storable c =
+    let k = settling (goal.at.store-requires-clause-storable c).After-cover-cover c.in_ok-settled.ensures.settled in
     rw (front_is k, c.end-end.ensures)
     (record { in_order = omega (arith, covered_within k.entering); room = c.self.invariant.room; owes = oldest_within k })
 
 pub make_room-self-inside-requires-clause-lies : goal.make_room-self-inside-requires-clause-lies
 make_room-self-inside-requires-clause-lies c =
     let k = settling (goal.at.make_room-self-inside-requires-clause-lies c).After-cover-cover c.in_ok-settled.ensures.settled in
-    after_lies k c.store.new.places c.store.ensures.long (rw (c.due_day-due.ensures, c.end-end.ensures, front_is k) at c.store.ensures.lie)
+    after_lies k c.store.new.places c.store.ensures.long (rw (c.end-end.ensures, front_is k) at c.store.ensures.lie)
 
 pub make_room-self-inside-requires-clause-few : goal.make_room-self-inside-requires-clause-few
 make_room-self-inside-requires-clause-few c =
@@ -76,7 +76,7 @@ returns-clause-stands c =
     let begun = (goal.at.returns-clause-stands c).After-cover-cover in
     let k = settling begun c.in_ok-settled.ensures.settled in
     let accepted = c.in_ok-settled.ensures.number ∙ refusal begun in
-    let stored = after_stands k c.store.new.places (rw (c.due_day-due.ensures, c.end-end.ensures, front_is k) at c.store.ensures.lie) in
+    let stored = after_stands k c.store.new.places (rw (c.end-end.ensures, front_is k) at c.store.ensures.lie) in
     c.make_room-self-inside.ensures.stands ∙ rw c.self.view_is at stored ∙
     sym (next_asked c.args.holidays.days.now c.args.entry c.args.self.now (sym accepted))
 
