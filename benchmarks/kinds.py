@@ -80,10 +80,12 @@ def once(line):
     return lambda _: [line]
 
 
+READING = "reading, nothing open"
+
 # Name, the number that answers each line of it, what leads there, and the kind, once or about so many times.
 KINDS = [
     ("reading and the payment of its bill in turn", 0, [opening(0)], lambda n: daily(month_paid, 1, 1, n // 2)),
-    ("reading, nothing open", 0, [opening(0)], once(month_read(1))),
+    (READING, 0, [opening(0)], once(month_read(1))),
     ("payment of the bill", 0, billed(1), once(payment(40, BILL))),
     ("payment of a part, 1 item open", 0, items(1, 20_000), lambda n: [payment(0, 1)] * n),
     ("payment of two bills, one late", 0, billed(2), once(payment(75, 2 * BILL))),
@@ -105,5 +107,18 @@ KINDS = [
 ]
 
 
+# Lists of 400 closed days, as many as a list may have: for all households' files, and for a reading of day 29, whose item is due from day 59 on.
+CLOSED_FOR_FILES = {"one day in 90 closed": range(0, 36_000, 90)}
+CLOSED_FOR_READING = {
+    "every other day closed, not its due day": range(0, 800, 2),
+    "400 days in a row closed, due behind them": range(59, 459),
+}
+
+
 def text(lines):
     return "".join(line + "\n" for line in lines)
+
+
+def list_text(days):
+    """The days as a file `closed` has them."""
+    return text(f"{day:04x}" for day in days)

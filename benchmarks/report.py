@@ -4,6 +4,8 @@ import csv
 import re
 import textwrap
 
+from kinds import READING
+
 WIDTH = 150  # of a paragraph
 PROGRAMS = ("bill", "fast_bill")
 SIDES = {"library": "library", "tuned": "tuned reference"}
@@ -38,7 +40,7 @@ def costs(name, pair, form):
 
 
 def households_text(rows, shares):
-    parts = [households(rows), kinds(rows), profile(shares, SIDES)]
+    parts = [households(rows), kinds(rows), closed(rows), profile(shares, SIDES)]
     return "\n\n".join(parts)
 
 
@@ -149,13 +151,32 @@ def growth(rows):
 
 def kinds(rows):
     """Instructions and time of one line of each kind."""
-    names = dict.fromkeys(row["measure"][6:] for row in rows if row["measure"].startswith("kind: "))
-    body = []
-    for name in names:
-        counts, times = ({side: value for (side, _), value in values(rows, measure + name).items()} for measure in ("kind: ", "time of kind: "))
-        body.append([name, *(f"{counts[side]:,.0f}" for side in SIDES), *(f"{times[side]:,.0f}" for side in SIDES)])
-    header = [f"{title}, {unit}" for unit in ("instructions", "ns") for title in SIDES.values()]
-    return table(["kind of line", *header], body)
+    return cost_table("kind of line", [(name, costs_of(rows, f"kind: {name}")) for name in names(rows, "kind: ")])
+
+
+def closed(rows):
+    """The same of households' files and of a reading, by lists of closed days and by none."""
+    none = "{}, none closed".format
+    files = [*line_cost(rows, ", instructions"), *(1e9 * seconds for seconds in line_cost(rows, ""))]
+    reading = costs_of(rows, f"kind: {READING}")
+    body = {none("households' files"): files, none(READING): reading}
+    body |= {name: costs_of(rows, f"closed: {name}") for name in names(rows, "closed: ")}
+    return cost_table("closed days", sorted(body.items(), key=lambda row: row[0].startswith(READING)))
+
+
+def names(rows, prefix):
+    return dict.fromkeys(row["measure"].removeprefix(prefix) for row in rows if row["measure"].startswith(prefix))
+
+
+def costs_of(rows, measure):
+    """Instructions of both sides, then nanoseconds."""
+    found = ({side: value for (side, _), value in values(rows, name).items()} for name in (measure, f"time of {measure}"))
+    return [by_side[side] for by_side in found for side in SIDES]
+
+
+def cost_table(title, named):
+    header = [f"{side}, {unit}" for unit in ("instructions", "ns") for side in SIDES.values()]
+    return table([title, *header], [[name, *(f"{cost:,.0f}" for cost in costs)] for name, costs in named])
 
 
 def profile(shares, programs):
@@ -197,6 +218,7 @@ def write(results_file, profile_file, root):
     parts = {
         "households": households(rows),
         "kinds": kinds(rows),
+        "closed": closed(rows),
         "functions": profile(shares, SIDES),
         "results": results(rows),
         "growth": growth(rows),
