@@ -8,7 +8,8 @@ import measure
 
 FILES = 100
 ROUNDS = 1_000  # over the files: some three seconds, so that what else the machine does falls on both sides alike
-KIND_ROUNDS = 600  # of lines of one kind; the best counts
+SWEEPS = 6  # over all kinds of line, so that a slow spell of the machine falls on few rounds of each
+KIND_ROUNDS = 100  # of lines of one kind in a sweep; the best of all sweeps counts
 SAMPLED = 200  # passes under perf
 REPEATED = 2_100  # lines of one kind
 CALLS = ("opening", "reading", "miss", "miss, absence known", "meter change", "stop", "resumption", "cancellation", "payment", "cancellation")
@@ -87,31 +88,51 @@ def measure_files(beside, folder):
     return rows, profile
 
 
-def measure_kinds(beside, program, say):
-    """One line of each kind."""
-    rows = []
-    for kind in kinds.KINDS:
-        say(f"one line: {kind[0]}")
-        rows += kind_costs(beside, program, kind, f"kind: {kind[0]}")
-    return rows
+class Line:
+    """One line of a kind, by a list of closed days or by none: files of the lines that lead there, and of those and it."""
+
+    def __init__(self, name, kind, beside):
+        _, self.answered, before, repeat = kind
+        lines = repeat(REPEATED)
+        self.name, self.beside, self.before, self.lines = name, beside, len(before), len(lines)
+        self.files = [beside.work / "led.txt", beside.work / "kind.txt"]
+        self.files[0].write_text(kinds.text(before))
+        self.files[1].write_text(kinds.text(before + lines))
+        self.best = {}
+
+    def time(self):
+        """Takes the time again; the best seconds of a pass count."""
+        times = max(1, REPEATED // self.lines)
+        for key, (best, _) in self.beside.seconds(*self.files, times=times).items():
+            self.best[key] = min(best / times, self.best.get(key, float("inf")))
+
+    def costs(self):
+        """Of the lines that lead there and it, less those that lead there."""
+        rows = []
+        for side in SIDES:
+            counts = [self.beside.instructions(side, file) for file in self.files]
+            seconds = [self.best[str(file), side] for file in self.files]
+            rows += side_costs(self.name, side, self.lines, counts[1] - counts[0], seconds[1] - seconds[0])
+        return rows
 
 
-def kind_costs(beside, program, kind, name):
-    """Instructions and nanoseconds of one line of a kind: of the lines that lead there and it, less those that lead there."""
-    title, answered, before, repeat = kind
-    lines = repeat(REPEATED)
-    led, source = beside.work / "led.txt", beside.work / "kind.txt"
-    led.write_text(kinds.text(before))
-    source.write_text(kinds.text(before + lines))
-    check_answers(measure.output(program, source), len(before), answered, title)
-    times = max(1, REPEATED // len(lines))
-    spent = beside.seconds(led, source, times=times)
-    rows = []
-    for side in SIDES:
-        counts = [beside.instructions(side, file) for file in (led, source)]
-        seconds = [spent[str(file), side][0] / times for file in (led, source)]
-        rows += side_costs(name, side, len(lines), counts[1] - counts[0], seconds[1] - seconds[0])
-    return rows
+def measure_kinds(program, work, fast_bill, say):
+    """Instructions and nanoseconds of one line of each kind, and of some by lists of closed days."""
+    by_title = {kind[0]: kind for kind in kinds.KINDS}
+    named = [(f"kind: {title}", title, None) for title in by_title]
+    named += [(f"closed: {title}, {name}", title, days) for title, name, days in kinds.CLOSED_FOR_KINDS]
+    lines = []
+    for place, (name, title, days) in enumerate(named):
+        folder = work / f"kind_{place}"
+        folder.mkdir()
+        line = Line(name, by_title[title], Beside(program, folder, days))
+        check_answers(measure.output(fast_bill, line.files[1]), line.before, line.answered, title)
+        lines.append(line)
+    for sweep in range(SWEEPS):
+        say(f"{len(lines)} kinds of line, sweep {sweep + 1} of {SWEEPS}")
+        for line in lines:
+            line.time()
+    return [row for line in lines for row in line.costs()]
 
 
 def side_costs(name, side, lines, count, seconds):
@@ -122,8 +143,8 @@ def side_costs(name, side, lines, count, seconds):
     ]
 
 
-def measure_closed(program, work, folder, lines, fast_bill, say):
-    """Households' files and a reading by lists of closed days. The files have so many lines."""
+def measure_closed(program, work, folder, lines, say):
+    """Households' files by lists of closed days. The files have so many lines."""
     rows = []
     for name, days in kinds.CLOSED_FOR_FILES.items():
         say(f"households' files, {name}")
@@ -131,10 +152,6 @@ def measure_closed(program, work, folder, lines, fast_bill, say):
         spent = beside.seconds(folder, rounds=ROUNDS)
         for side in SIDES:
             rows += side_costs(f"closed: households' files, {name}", side, lines, beside.instructions(side, folder), spent[str(folder), side][0])
-    reading = next(kind for kind in kinds.KINDS if kind[0] == kinds.READING)
-    for name, days in kinds.CLOSED_FOR_READING.items():
-        say(f"one line: {kinds.READING}, {name}")
-        rows += kind_costs(Beside(program, work, days), fast_bill, reading, f"closed: {kinds.READING}, {name}")
     return rows
 
 

@@ -80,11 +80,12 @@ def once(line):
     return lambda _: [line]
 
 
+PAID_MONTH = "reading and the payment of its bill in turn"
 READING = "reading, nothing open"
 
 # Name, the number that answers each line of it, what leads there, and the kind, once or about so many times.
 KINDS = [
-    ("reading and the payment of its bill in turn", 0, [opening(0)], lambda n: daily(month_paid, 1, 1, n // 2)),
+    (PAID_MONTH, 0, [opening(0)], lambda n: daily(month_paid, 1, 1, n // 2)),
     (READING, 0, [opening(0)], once(month_read(1))),
     ("payment of the bill", 0, billed(1), once(payment(40, BILL))),
     ("payment of a part, 1 item open", 0, items(1, 20_000), lambda n: [payment(0, 1)] * n),
@@ -107,12 +108,13 @@ KINDS = [
 ]
 
 
-# Lists of 400 closed days, as many as a list may have: for all households' files, and for a reading of day 29, whose item is due from day 59 on.
+# Lists of 400 closed days, as many as a list may have: for all households' files, and for kinds of line. An item of a paid month is due on an odd day; that of
+# the reading of day 29 from day 59 on.
 CLOSED_FOR_FILES = {"one day in 90 closed": range(0, 36_000, 90)}
-CLOSED_FOR_READING = {
-    "every other day closed, not its due day": range(0, 800, 2),
-    "400 days in a row closed, due behind them": range(59, 459),
-}
+CLOSED_FOR_KINDS = [
+    (PAID_MONTH, "one day in 80 closed, none a due day", range(0, 32_000, 80)),
+    (READING, "400 days in a row closed, due behind them", range(59, 459)),
+]
 
 
 def text(lines):

@@ -4,7 +4,7 @@ import csv
 import re
 import textwrap
 
-from kinds import READING
+from kinds import CLOSED_FOR_KINDS
 
 WIDTH = 150  # of a paragraph
 PROGRAMS = ("bill", "fast_bill")
@@ -155,13 +155,14 @@ def kinds(rows):
 
 
 def closed(rows):
-    """The same of households' files and of a reading, by lists of closed days and by none."""
-    none = "{}, none closed".format
-    files = [*line_cost(rows, ", instructions"), *(1e9 * seconds for seconds in line_cost(rows, ""))]
-    reading = costs_of(rows, f"kind: {READING}")
-    body = {none("households' files"): files, none(READING): reading}
-    body |= {name: costs_of(rows, f"closed: {name}") for name in names(rows, "closed: ")}
-    return cost_table("closed days", sorted(body.items(), key=lambda row: row[0].startswith(READING)))
+    """The same of households' files and of some kinds, by lists of closed days, each behind what it is with none closed."""
+    without = {"households' files": [*line_cost(rows, ", instructions"), *(1e9 * seconds for seconds in line_cost(rows, ""))]}
+    without |= {title: costs_of(rows, f"kind: {title}") for title, _, _ in CLOSED_FOR_KINDS}
+    body = []
+    for title, costs in without.items():
+        body.append((f"{title}, none closed", costs))
+        body += [(name, costs_of(rows, f"closed: {name}")) for name in names(rows, "closed: ") if name.startswith(title)]
+    return cost_table("closed days", body)
 
 
 def names(rows, prefix):
