@@ -41,7 +41,7 @@ module _ (holidays : List ℕ) (h : Head) (estimates : Estimates) (s : Standing)
     abbrev pub made : Standing → ℕ → Work
     made x interest =
         record {
-          account = account_of p.head (changed p.change estimates) (stored x);
+          account = account_of p.head (changed p estimates) (stored x);
           estimated = p.estimated;
           volumes = final;
           net = p.net;
@@ -50,11 +50,11 @@ module _ (holidays : List ℕ) (h : Head) (estimates : Estimates) (s : Standing)
 
     -- It comes to the call's outcome where these items stand behind it.
     pub record Goes (after : Standing) (interest : ℕ) (volumes : List ℕ) : Type 0 where
-      pub account_is : account_of p.head (changed p.change estimates) (stored after) ≡ (outcome holidays a call).account
+      pub account_is : account_of p.head (changed p estimates) (stored after) ≡ (outcome holidays a call).account
       pub answer_is :
           acceptance p.estimated (take p.count volumes) p.net interest (unpaid_of after.open_items) after.credit ≡
           (outcome holidays a call).answer
-      pub counted : (changed p.change estimates).count ≡ p.head.standing
+      pub counted : (changed p estimates).count ≡ p.head.standing
 
     pub goes : (volumes : List ℕ) → take p.count volumes ≡ final → (x : Standing) (interest : ℕ)
         → outcome holidays a call ≡ accepted (made x interest) → length x.open_items ≤ capacity → Goes x interest volumes

@@ -1,5 +1,5 @@
 -- What a whole account keeps to, as facts about its fields. Assumes nothing.
-use Rattle.common.proofs.Words.{◌≡◌, refl, ◌⊎◌, Bool, true, false, cond, not, false≢true, List, ℕ, ◌+◌, ◌≤◌, ◌<◌, arith, leb, leb-true}
+use Rattle.common.proofs.Words.{◌≡◌, refl, ◌⊎◌, Bool, true, false, cond, not, false≢true, List, ℕ, ◌+◌, ◌≤◌, ◌<◌, le_trans, arith, leb, leb-true}
 use Rattle.common.proofs.Words.{le-leb, ltb-true, lt-ltb, eqb-true, eq-eqb}
 use Rattle.lists.specs.Every.{every, Every}
 use Rattle.common.proofs.Tests.{and_both, within_true, within_intro, either_zero, zero_either}
@@ -23,26 +23,42 @@ module _ {A : Type 0} (test : A → Bool) (P : A → Type 0) where
   all_whole holds xs w = true_every test xs (every_map P (λ x. test x ≡ true) holds xs w)
 
 -- An estimate.
-estimate_facts : (estimate : Estimate) → whole_estimate estimate ≡ true → EstimateBounds estimate
+pub record EstimateFacts (latest : ℕ) (estimate : Estimate) : Type 0 where
+  pub bounds : EstimateBounds estimate
+  pub closing_most : estimate.period.closing_day ≤ latest
+
+estimate_facts : (latest : ℕ) (estimate : Estimate) → whole_estimate latest estimate ≡ true → EstimateFacts latest estimate
 unfolding whole_estimate
-estimate_facts estimate e =
-    let four = and_both e in
+estimate_facts latest estimate e =
+    let five = and_both e in
+    let four = and_both five.0 in
     let three = and_both four.0 in
     let two = and_both three.0 in
-    let days = within_true 1 most_days estimate.days two.0 in
+    let days = within_true 1 most_days estimate.period.days two.0 in
     record {
-      days_least = days.0;
-      days_most = days.1;
-      fuel_allowed = two.1;
-      volume_most = leb-true _ _ three.1;
-      charged_most = leb-true _ _ four.1;
+      bounds =
+          record {
+            days_least = days.0;
+            days_most = days.1;
+            fuel_allowed = two.1;
+            volume_most = leb-true _ _ four.1;
+            charged_most = leb-true _ _ five.1;
+          };
+      closing_most = leb-true _ _ three.1;
     }
 
-estimate_whole : (estimate : Estimate) → EstimateBounds estimate → whole_estimate estimate ≡ true
+estimate_whole : (latest : ℕ) (estimate : Estimate) → EstimateFacts latest estimate → whole_estimate latest estimate ≡ true
 unfolding whole_estimate
-estimate_whole estimate w =
-    let days = within_intro 1 most_days estimate.days w.days_least w.days_most in
-    rw (days, w.fuel_allowed, le-leb _ _ w.volume_most, le-leb _ _ w.charged_most)
+estimate_whole latest estimate w =
+    let b = w.bounds in
+    let days = within_intro 1 most_days estimate.period.days b.days_least b.days_most in
+    rw (days, b.fuel_allowed, le-leb _ _ w.closing_most, le-leb _ _ b.volume_most, le-leb _ _ b.charged_most)
+
+-- Estimates as of a later day.
+pub estimates_later : {latest day : ℕ} → latest ≤ day → (estimates : List Estimate) → Every (EstimateFacts latest) estimates
+    → Every (EstimateFacts day) estimates
+estimates_later {latest} {day} h =
+    every_map (EstimateFacts latest) (EstimateFacts day) (λ _ w. record { bounds = w.bounds; closing_most = le_trans w.closing_most h })
 
 -- An item.
 pub record ItemFacts (latest : ℕ) (item : Item) : Type 0 where
@@ -122,7 +138,7 @@ pub record MeterFacts (a : Account) : Type 0 where
   pub pool_most : a.meter.pool ≤ most_volume
   pub previous_most : a.meter.previous ≤ most_volume
   pub misses_most : a.estimates.count ≤ most_misses
-  pub estimates : Every EstimateBounds (standing_estimates a)
+  pub estimates : Every (EstimateFacts a.latest) (standing_estimates a)
 
 meter_facts : (a : Account) → whole_meter a ≡ true → MeterFacts a
 unfolding whole_meter
@@ -140,7 +156,7 @@ meter_facts a e =
       pool_most = leb-true _ _ four.1;
       previous_most = leb-true _ _ five.1;
       misses_most = leb-true _ _ six.1;
-      estimates = all_facts whole_estimate EstimateBounds estimate_facts (standing_estimates a) seven.1;
+      estimates = all_facts (whole_estimate a.latest) (EstimateFacts a.latest) (estimate_facts a.latest) (standing_estimates a) seven.1;
     }
 
 meter_whole : (a : Account) → MeterFacts a → whole_meter a ≡ true
@@ -149,8 +165,12 @@ meter_whole a w =
     let digits = within_intro 4 5 a.meter.digits w.digits_within.0 w.digits_within.1 in
     let pool = le-leb a.meter.pool most_volume w.pool_most in
     let previous = le-leb a.meter.previous most_volume w.previous_most in
-    let estimates = all_whole whole_estimate EstimateBounds estimate_whole (standing_estimates a) w.estimates in
+    let estimates =
+    all_whole (whole_estimate a.latest) (EstimateFacts a.latest) (estimate_whole a.latest) (standing_estimates a) w.estimates in
     rw (le-leb _ _ w.latest_most, digits, lt-ltb _ _ w.dial_within, pool, previous, le-leb _ _ w.misses_most, estimates)
+
+pub estimates_bounded : (a : Account) → MeterFacts a → Every EstimateBounds (standing_estimates a)
+estimates_bounded a w = every_map (EstimateFacts a.latest) EstimateBounds (λ _ e. e.bounds) (standing_estimates a) w.estimates
 
 -- An account that is not new.
 pub record Facts (a : Account) : Type 0 where

@@ -2,11 +2,12 @@
 use Rattle.common.proofs.Words.{◌≡◌, refl, sym, ap, ◌∙◌, Bool, true, false, false≢true, eqb-true}
 use Rattle.common.proofs.Tests.{and_both}
 use Rattle.lists.proofs.Every.{same_equal}
+use Rattle.tariff.specs.declared.BillingPeriod.{BillingPeriod}
 use Rattle.meter.specs.{declared.Estimate.Estimate, declared.Estimates.Estimates}
 use Rattle.ledger.specs.{declared.Kind.Kind, declared.Kind.TheVariants.Interest, declared.Kind.TheVariants.Price, declared.Item.Item}
 use Rattle.ledger.specs.{declared.Ledger.Ledger, Interest.is_price}
 use Rattle.intake.specs.{declared.Status.Status, declared.Status.TheVariants.New, Heads.head_on}
-use Rattle.account.specs.Whole.{agree, same_estimate, same_item, made_meter, made_estimates, made_ledger, as_made, whole_status, whole}
+use Rattle.account.specs.Whole.{agree, same_period, same_estimate, same_item, made_meter, made_estimates, made_ledger, as_made, whole_status, whole}
 use Rattle.account.specs.{declared.Account.Account, Calls.new_account, Calls.head_of, Calls.account_of}
 
 -- What agrees is equal.
@@ -22,23 +23,31 @@ kinds_equal Interest Price e = absurd (false≢true e)
 kinds_equal Price Interest e = absurd (false≢true e)
 kinds_equal Price Price e = refl
 
-estimates_equal : (one other : Estimate) → same_estimate one other ≡ true → one ≡ other
-estimates_equal one other e =
-    let six = and_both e in
-    let five = and_both six.0 in
-    let four = and_both five.0 in
+periods_equal : (one other : BillingPeriod) → same_period one other ≡ true → one ≡ other
+periods_equal one other e =
+    let four = and_both e in
     let three = and_both four.0 in
     let two = and_both three.0 in
     λ i. record {
-      absent = marks_equal one.absent other.absent two.0 i;
-      days = eqb-true one.days other.days two.1 i;
+      days = eqb-true one.days other.days two.0 i;
+      closing_day = eqb-true one.closing_day other.closing_day two.1 i;
       fuel =
           record {
             lng = eqb-true one.fuel.lng other.fuel.lng three.1 i;
             propane = eqb-true one.fuel.propane other.fuel.propane four.1 i;
           };
-      volume = eqb-true one.volume other.volume five.1 i;
-      charged = eqb-true one.charged other.charged six.1 i;
+    }
+
+estimates_equal : (one other : Estimate) → same_estimate one other ≡ true → one ≡ other
+estimates_equal one other e =
+    let four = and_both e in
+    let three = and_both four.0 in
+    let two = and_both three.0 in
+    λ i. record {
+      absent = marks_equal one.absent other.absent two.0 i;
+      period = periods_equal one.period other.period two.1 i;
+      volume = eqb-true one.volume other.volume three.1 i;
+      charged = eqb-true one.charged other.charged four.1 i;
     }
 
 items_equal : (one other : Item) → same_item one other ≡ true → one ≡ other

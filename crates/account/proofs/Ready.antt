@@ -9,7 +9,7 @@ use Rattle.intake.specs.declared.Status.TheVariants.{New, Supplied, Stopped, Can
 use Rattle.intake.specs.{declared.Status.Status, Limits.most_misses, Limits.most_volume}
 use Rattle.intake.specs.Heads.{HeadBounds, EstimateBounds, EstimatesFit}
 use Rattle.account.specs.{declared.Account.Account, Calls.head_of, Calls.standing_estimates, Whole.whole}
-use Rattle.account.proofs.Facts.{ItemFacts, Facts, StatusFacts, whole_facts, supplied_facts}
+use Rattle.account.proofs.Facts.{ItemFacts, Facts, StatusFacts, estimates_bounded, whole_facts, supplied_facts}
 use Rattle.account.proofs.Made.{new_as, made_facts}
 
 item_bounds : (latest : ℕ) (item : Item) → ItemFacts latest item → ItemBounds item
@@ -41,7 +41,7 @@ facts_kept a w =
           };
       previous_most = w.meter.previous_most;
       misses_most = w.meter.misses_most;
-      estimates = w.meter.estimates;
+      estimates = estimates_bounded a w.meter;
     }
 
 module _ (a : Account) (e : whole a ≡ true) where

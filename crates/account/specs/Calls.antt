@@ -10,7 +10,7 @@ use Rattle.intake.specs.declared.Call.TheVariants.{Opening, Reading, Missed, Abs
 use Rattle.intake.specs.declared.Call.TheVariants.{Payment, StoppedCancellation}
 use Rattle.intake.specs.{declared.Status.Status, declared.Head.Head, declared.Call.Call, Heads.head_on}
 use Rattle.intake.specs.{Statuses.is_cancelled, Statuses.start_of, Statuses.stop_of}
-use Rattle.intake.specs.{Periods.days_of, Periods.day_after, Periods.resumed_start}
+use Rattle.intake.specs.{Periods.closed_period, Periods.day_after, Periods.resumed_start}
 use Rattle.closing.specs.Closing.{of_this_period, net_of, stored_estimates}
 use Rattle.account.specs.declared.Account.{Account}
 use Rattle.meter.specs.Sharing as Sharing
@@ -64,7 +64,7 @@ module _ (a : Account) (day reading : ℕ) (fuel : Fuel) where
   made_final = final_volumes (standing_estimates a) (pool_to a.meter reading)
 
   abbrev pub closing_price : ℕ
-  closing_price = price_of (days_of (start_of a.status) day) fuel (of_this_period made_final)
+  closing_price = price_of (closed_period (start_of a.status) day fuel) (of_this_period made_final)
 
   abbrev pub closing_net : ℤ
   closing_net = net_of (standing_estimates a) (pool_to a.meter reading) made_final closing_price
@@ -106,10 +106,9 @@ module _ (a : Account) (day : ℕ) (fuel : Fuel) where
   estimate_of absent volume =
       record {
         absent = absent;
-        days = days_of (start_of a.status) day;
-        fuel = fuel;
+        period = closed_period (start_of a.status) day fuel;
         volume = volume;
-        charged = price_of (days_of (start_of a.status) day) fuel volume;
+        charged = price_of (closed_period (start_of a.status) day fuel) volume;
       }
 
 abbrev pub missed : List ℕ → Account → ℕ → Fuel → Bool → ℕ → Work

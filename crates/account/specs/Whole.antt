@@ -2,6 +2,7 @@
 use Rattle.std.specs.Prelude.{Bool, true, false, cond, not, ◌&&◌, ◌||◌, ℕ, ◌+◌, leb, eqb}
 use Rattle.common.specs.Range.{within}
 use Rattle.lists.specs.Every.{every, same}
+use Rattle.tariff.specs.declared.BillingPeriod.{BillingPeriod}
 use Rattle.meter.specs.{declared.Estimate.Estimate, declared.Estimates.Estimates}
 use Rattle.ledger.specs.{declared.Item.Item, declared.Ledger.Ledger, Interest.is_price, Posting.standing}
 use Rattle.ledger.specs.Limits.{most_price, most_interest}
@@ -16,12 +17,17 @@ abbrev pub agree : Bool → Bool → Bool
 agree mark true = mark
 agree mark false = not mark
 
+abbrev pub same_period : BillingPeriod → BillingPeriod → Bool
+same_period one other =
+    eqb one.days other.days &&
+    eqb one.closing_day other.closing_day &&
+    eqb one.fuel.lng other.fuel.lng &&
+    eqb one.fuel.propane other.fuel.propane
+
 abbrev pub same_estimate : Estimate → Estimate → Bool
 same_estimate one other =
     agree one.absent other.absent &&
-    eqb one.days other.days &&
-    eqb one.fuel.lng other.fuel.lng &&
-    eqb one.fuel.propane other.fuel.propane &&
+    same_period one.period other.period &&
     eqb one.volume other.volume &&
     eqb one.charged other.charged
 
@@ -57,11 +63,12 @@ made_ledger ledger =
 unfoldable pub as_made : Account → Bool
 as_made a = made_meter a && made_estimates a.estimates && made_ledger a.ledger
 
--- An estimate: 1 to 36,495 days, fuel as number 6 allows, volume at most 99,999, charge at most 10^8.
-unfoldable pub whole_estimate : Estimate → Bool
-whole_estimate estimate =
-    within 1 most_days estimate.days &&
-    fuel_allowed estimate.fuel &&
+-- An estimate: 1 to 36,495 days, fuel as number 6 allows, no closing day past the latest day, volume at most 99,999, charge at most 10^8.
+unfoldable pub whole_estimate : ℕ → Estimate → Bool
+whole_estimate latest estimate =
+    within 1 most_days estimate.period.days &&
+    fuel_allowed estimate.period.fuel &&
+    leb estimate.period.closing_day latest &&
     volume_allowed estimate.volume &&
     leb estimate.charged most_charge
 
@@ -92,7 +99,7 @@ whole_meter a =
     volume_allowed a.meter.pool &&
     volume_allowed a.meter.previous &&
     misses_allowed a.estimates.count &&
-    every whole_estimate (standing_estimates a)
+    every (whole_estimate a.latest) (standing_estimates a)
 
 -- What is asked of every account but a new one.
 unfoldable pub whole_parts : Account → Bool

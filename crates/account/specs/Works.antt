@@ -18,7 +18,7 @@ interest_after holidays (Some entry) ledger = interest_posted holidays entry (st
 abbrev pub work_of : List ℕ → Plan → List ℕ → Estimates → Ledger → Work
 work_of holidays p final estimates ledger =
     record {
-      account = account_of p.head (changed p.change estimates) (ledger_after holidays p.entry ledger);
+      account = account_of p.head (changed p estimates) (ledger_after holidays p.entry ledger);
       estimated = p.estimated;
       volumes = final;
       net = p.net;

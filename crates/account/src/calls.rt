@@ -1,7 +1,7 @@
 // A call on an account that is known to be whole, by a list that is known to be within its bounds: planned on its head, and entered in
 // its ledger once.
-ghost use Rattle.std.specs.Prelude.{◌≡◌, List, [], ◌∷◌, ◌++◌, ℕ, ◌<◌, IfSome};
-ghost use Rattle.meter.specs.Sharing.{standing, volumes_of};
+ghost use Rattle.std.specs.Prelude.{◌≡◌, List, [], ◌∷◌, ◌++◌, ℕ, ◌<◌, IfSome, length};
+ghost use Rattle.meter.specs.Sharing.{volumes_of};
 ghost use Rattle.ledger.specs.Entries.{EntryBounds};
 ghost use Rattle.intake.specs.Limits.{most_misses};
 ghost use Rattle.closing.specs.Closing.{stored_estimates};
@@ -18,10 +18,11 @@ use common::Refusal;
 use duedays::Holidays;
 use intake::{Call, Head};
 use lanes::OpenItems;
-use ledger::Ledger;
-use meter::{Estimate, Estimates, MOST_FINAL, Volumes};
+use ledger::{Ledger, charge_of};
+use meter::{Estimate, Estimates, MOST_FINAL, StandingPeriods, Volumes};
 use plan::plans::plan_with;
 use plan::{Change, Plan};
+use tariff::BillingPeriod;
 
 impl WholeAccount {
     // Any call.
@@ -67,7 +68,7 @@ impl WholeAccount {
         ensures { (final : List ℕ) → record { count = plan.count; volumes = volumes } ≡ volumes_of final
             → Concluded (work_of holidays.entry.days.now plan final self.now.account.estimates self.now.account.ledger) result }
     {
-        let estimates = changed(plan.change, self.account.estimates);
+        let estimates = changed(plan, &self.account.estimates);
         let Some(entry) = plan.entry else {
             let ledger = self.account.ledger;
             return Ok(Outcome {
@@ -149,14 +150,27 @@ pub fn account_of(head: Head, estimates: Estimates, ledger: Ledger) -> Account
 }
 
 // What becomes of the estimates.
-pub fn changed(change: Change, estimates: Estimates) -> Estimates
-    requires { Room change estimates.count }
-    ensures { result ≡ changed change estimates }
+pub fn changed(plan: Plan, estimates: &Estimates) -> Estimates
+    requires { Room plan.change estimates.now.count }
+    ensures { result ≡ changed plan estimates.now }
 {
+    let change = plan.change;
     match change {
-        Change::Kept => estimates,
+        Change::Kept => *estimates,
         Change::Cleared => no_estimates(),
-        Change::Added { estimate } => with_estimate(estimates, estimate),
+        Change::Added { absent, days, fuel } => {
+            let estimate = Estimate {
+                absent,
+                period: BillingPeriod {
+                    days,
+                    closing_day: plan.head.latest,
+                    fuel,
+                },
+                volume: plan.estimated,
+                charged: charge_of(plan.net) as u32,
+            };
+            with_estimate(estimates.standing(), estimate)
+        }
     }
 }
 
@@ -167,15 +181,15 @@ fn no_estimates() -> Estimates
     Estimates::default()
 }
 
-// The estimates with one more behind them.
-fn with_estimate(estimates: Estimates, estimate: Estimate) -> Estimates
-    requires { estimates.count < most_misses }
-    ensures { result ≡ stored_estimates (standing estimates ++ (estimate ∷ [])) }
+// The estimates that stand with one more behind them.
+fn with_estimate(standing: StandingPeriods<'_>, estimate: Estimate) -> Estimates
+    requires { length standing.periods.now < most_misses }
+    ensures { result ≡ stored_estimates (standing.entry.periods.now ++ (estimate ∷ [])) }
 {
-    let count = estimates.count;
+    let count = standing.periods.len();
     let none = no_estimates();
     let mut periods = none.periods;
-    periods[..count].copy_from_slice(estimates.standing().periods);
+    periods[..count].copy_from_slice(standing.periods);
     periods[count] = estimate;
     Estimates {
         count: count + 1,

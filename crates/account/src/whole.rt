@@ -74,21 +74,24 @@ fn whole_meter(account: &Account) -> bool
         & on_dial(meter.digits, meter.dial)
         & (meter.pool <= MOST_VOLUME)
         & (meter.previous <= MOST_VOLUME)
-        & whole_estimates(account.estimates.standing().periods)
+        & whole_estimates(account.latest, account.estimates.standing().periods)
 }
 
-fn whole_estimates(estimates: &[Estimate]) -> bool
-    ensures { result ≡ every whole_estimate estimates.now }
+fn whole_estimates(latest: u16, estimates: &[Estimate]) -> bool
+    ensures { result ≡ every (whole_estimate latest) estimates.now }
 {
-    estimates.iter().all(|estimate| whole_estimate(*estimate))
+    estimates
+        .iter()
+        .all(|estimate| whole_estimate(latest, *estimate))
 }
 
 #[tactic(auto, unfolding(crate::specs::Whole::whole_estimate))]
-fn whole_estimate(estimate: Estimate) -> bool
-    ensures { result ≡ whole_estimate estimate }
+fn whole_estimate(latest: u16, estimate: Estimate) -> bool
+    ensures { result ≡ whole_estimate latest estimate }
 {
-    (1..=MOST_DAYS).contains(&estimate.days)
-        & fuel_allowed(estimate.fuel)
+    (1..=MOST_DAYS).contains(&estimate.period.days)
+        & fuel_allowed(estimate.period.fuel)
+        & (estimate.period.closing_day <= latest)
         & (estimate.volume <= MOST_VOLUME)
         & (estimate.charged <= MOST_CHARGE)
 }

@@ -6,8 +6,8 @@ use Rattle.lists.proofs.Every.{every_map}
 use Rattle.ledger.specs.{declared.Ledger.Ledger, Posting.Standing, Posting.standing}
 use Rattle.account.specs.{declared.Account.Account, Calls.head_of, Calls.standing_estimates}
 use Rattle.intake.specs.{Limits.most_volume, Limits.most_misses, Statuses.stop_of, Statuses.is_new, Statuses.is_stopped, Periods.resumed_start}
-use Rattle.intake.specs.Heads.{EstimateBounds}
-use Rattle.account.proofs.{Facts.ItemFacts, Facts.LedgerFacts, Facts.new_facts, Sound.item_later, Sound.load, Sound.most_load}
+use Rattle.account.proofs.Facts.{ItemFacts, LedgerFacts, EstimateFacts, estimates_later, new_facts}
+use Rattle.account.proofs.Sound.{item_later, load, most_load}
 use Rattle.intake.proofs.Passed.{DialPassed, ExchangePassed}
 use Rattle.audit.specs.Book.{Book, closed_on, settled, accept_meter, begun, exchanged}
 use Rattle.audit.proofs.Balance.{on_ledger, settled_same, quiet_balanced, finished_open}
@@ -30,7 +30,7 @@ record Carried (a : Account) : Type 0 where
   pool_most : a.meter.pool ≤ most_volume
   previous_most : a.meter.previous ≤ most_volume
   misses_most : a.estimates.count ≤ most_misses
-  estimates : Every EstimateBounds (standing_estimates a)
+  estimates : Every (EstimateFacts a.latest) (standing_estimates a)
   ledger : LedgerFacts a.latest a.ledger
 
 -- 01 and 07: the dial is set and a period begins.
@@ -39,6 +39,7 @@ module _ (holidays : List ℕ) {a : Account} {b : Book} (w : Matched a b) {day r
   begun_matched : Carried a → b.money.is_cancelled ≡ false → (start : ℕ) {bookStart : ℕ} → start ≡ bookStart → start ≤ day + 1
       → Matched (Calls.begun a day reading digits start).account (accept_meter holidays b day (begun b.metering reading digits bookStart))
   begun_matched kept not_cancelled start same start_most =
+      let estimates = estimates_later p.not_before (standing_estimates a) kept.estimates in
       rw (finished_open holidays b.money day not_cancelled)
       (record {
         metered = search;
@@ -75,6 +76,7 @@ pub exchange_matched : (holidays : List ℕ) {a : Account} {b : Book} → Matche
 exchange_matched holidays {a} {b} w {day} {old} p =
     let supplied = supply w p.supplied in
     let f = supplied.facts.meter in
+    let estimates = estimates_later p.not_before (standing_estimates a) f.estimates in
     let pool = pool_to_lem w.metered old in
     rw (finished_open holidays b.money day supplied.not_cancelled)
     (record {

@@ -2,17 +2,17 @@
 use Rattle.common.proofs.Words.{◌≡◌, refl, ap, sym, ◌∙◌, true, false, List, [], ◌∷◌, ◌++◌, map-append, reverse, reverse-cons, ℕ, ◌+◌, ◌≤◌}
 use Rattle.common.proofs.Words.{le_refl, arith, ℤ, pos, length, length-append, length-take}
 use Rattle.lists.proofs.{Every.every_append, Pad.take_pad}
-use Rattle.tariff.specs.declared.Fuel.{Fuel}
+use Rattle.tariff.specs.{declared.Fuel.Fuel, declared.BillingPeriod.BillingPeriod}
 use Rattle.tariff.proofs.Bounds.{price_most}
 use Rattle.meter.specs.{declared.Estimate.Estimate, Sharing.blank}
 use Rattle.duedays.specs.DueDays.{list_allowed}
 use Rattle.ledger.specs.Posting.{Standing, standing, closed}
 use Rattle.account.specs.Calls.{head_of, standing_estimates, estimate_of, missed}
 use Rattle.account.specs.declared.Account.{Account}
-use Rattle.intake.specs.{declared.Call.Call, Limits.most_days, Limits.most_volume, Limits.most_misses, Statuses.start_of, Periods.days_of}
+use Rattle.intake.specs.{declared.Call.Call, Limits.most_days, Limits.most_volume, Limits.most_misses, Statuses.start_of, Periods.closed_period}
 use Rattle.intake.specs.Heads.{EstimateBounds}
 use Rattle.closing.specs.Closing.{stored_estimates}
-use Rattle.account.proofs.Facts.{MeterFacts}
+use Rattle.account.proofs.Facts.{MeterFacts, EstimateFacts, estimates_later}
 use Rattle.intake.proofs.Passed.{MissPassed}
 use Rattle.closing.proofs.Nets.{billable}
 use Rattle.audit.specs.Book.{Book, Money, Period, is_reading, is_absence, as_estimate, estimates, prices, price_at, new_period, net_added}
@@ -28,8 +28,8 @@ module _ (holidays : List ℕ) (listed : list_allowed holidays ≡ true)
     (call : Call) (no_reading_lem : is_reading call ≡ false)
     (volume : ℕ) (within : volume ≤ most_volume) (absent_zero : is_absence call ≡ true → volume ≡ 0) where
   -- what the account makes of it
-  abbrev days : ℕ
-  days = days_of (start_of a.status) day
+  abbrev period : BillingPeriod
+  period = closed_period (start_of a.status) day fuel
 
   abbrev estimate : Estimate
   estimate = estimate_of a day fuel (is_absence call) volume
@@ -70,9 +70,9 @@ module _ (holidays : List ℕ) (listed : list_allowed holidays ≡ true)
 
   estimate_bounds : EstimateBounds estimate
   estimate_bounds =
-      let days_most : days ≤ most_days = omega (arith, p.day_most) in
-      let bill = billable days fuel volume p.some_day days_most p.fuel_allowed within in
-      let charged_most = price_most days fuel volume bill in
+      let days_most : period.days ≤ most_days = omega (arith, p.day_most) in
+      let bill = billable period volume p.some_day days_most p.fuel_allowed within in
+      let charged_most = price_most period volume bill in
       search
 
   -- What stands after the closing.
@@ -89,7 +89,9 @@ module _ (holidays : List ℕ) (listed : list_allowed holidays ≡ true)
       let long = length-append (standing_estimates a) (estimate ∷ []) in
       let misses_most : length all ≤ most_misses =
       omega (arith, long, length-take a.estimates.count a.estimates.periods, p.misses_most) in
-      let each = every_append EstimateBounds (standing_estimates a) (estimate ∷ []) facts.estimates (estimate_bounds, tt) in
+      let before = estimates_later p.not_before (standing_estimates a) facts.estimates in
+      let this : EstimateFacts day estimate = record { bounds = estimate_bounds; closing_most = le_refl day } in
+      let each = every_append (EstimateFacts day) (standing_estimates a) (estimate ∷ []) before (this, tt) in
       let stored = rw (← take_pad blank most_misses all) at each in
       search
 

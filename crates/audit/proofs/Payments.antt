@@ -5,11 +5,11 @@ use Rattle.ledger.specs.Posting.{Standing, standing, stored, held_posted}
 use Rattle.ledger.specs.Limits.{last_call_day}
 use Rattle.intake.specs.declared.Status.TheVariants.{New, Supplied, Stopped, Cancelled}
 use Rattle.intake.specs.{declared.Status.Status, Statuses.is_cancelled, Statuses.is_new}
-use Rattle.account.specs.Calls.{head_of, with_ledger, paid_ledger, payment, stopped_cancellation}
+use Rattle.account.specs.Calls.{head_of, standing_estimates, with_ledger, paid_ledger, payment, stopped_cancellation}
 use Rattle.account.specs.declared.Account.{Account}
 use Rattle.common.proofs.Cases.{by_test}
 use Rattle.ledger.proofs.Within.{Passes}
-use Rattle.account.proofs.Facts.{Facts, StatusFacts, not_new_facts}
+use Rattle.account.proofs.Facts.{Facts, StatusFacts, estimates_later, not_new_facts}
 use Rattle.intake.proofs.Passed.{PaymentPassed}
 use Rattle.audit.specs.Book.{Book, Money, prices, settled, received, interest_entered, cancelled, accept_money}
 use Rattle.audit.proofs.Standings.{Stands, Fits, stands, stands_load, stands_balanced, stands_facts, cancelled_stands, waits_stands}
@@ -31,6 +31,7 @@ module _ (holidays : List ℕ) (listed : list_allowed holidays ≡ true)
     facts_after : (status : Status) → Facts (with_ledger a day status (stored x))
     facts_after status =
         let known = facts.meter in
+        let estimates = estimates_later not_before (standing_estimates a) known.estimates in
         record { meter = search; ledger = stands_facts s fits }
 
     money_matched : (status : Status) → StatusMatch status (book_with m) → StatusFacts status (with_ledger a day status (stored x))

@@ -2,7 +2,7 @@
 use Rattle.common.proofs.Words.{◌≡◌, refl, ap, sym, ◌∙◌, true, false, false≢true, List, [], ℕ, ◌+◌, ◌*◌, ◌≤◌, le_refl, arith, ℤ, length}
 use Rattle.common.proofs.Words.{length-take}
 use Rattle.lists.specs.Sum.{sum}
-use Rattle.tariff.specs.declared.Fuel.{Fuel}
+use Rattle.tariff.specs.{declared.Fuel.Fuel, declared.BillingPeriod.BillingPeriod}
 use Rattle.tariff.proofs.Bounds.{price_most}
 use Rattle.meter.specs.Metering.{pool_to, read_at}
 use Rattle.meter.proofs.Sharing.{final_sum}
@@ -12,11 +12,11 @@ use Rattle.ledger.specs.declared.Ledger.{Ledger}
 use Rattle.intake.specs.declared.Status.{Status}
 use Rattle.intake.specs.declared.Status.TheVariants.{Supplied, Stopped, Cancelled}
 use Rattle.intake.specs.{declared.Call.Call, Limits.most_days, Limits.most_charge, Limits.most_misses, Statuses.start_of}
-use Rattle.intake.specs.Periods.{days_of, day_after}
+use Rattle.intake.specs.Periods.{closed_period, day_after}
 use Rattle.account.specs.Calls.{head_of, standing_estimates, made_final, closing_price, closing_net, closed_ledger, after_reading}
 use Rattle.account.specs.declared.Account.{Account}
 use Rattle.closing.specs.Closing.{of_this_period, stored_estimates}
-use Rattle.account.proofs.Facts.{MeterFacts, Facts, StatusFacts}
+use Rattle.account.proofs.Facts.{MeterFacts, Facts, StatusFacts, estimates_bounded}
 use Rattle.intake.proofs.Passed.{ReadingPassed}
 use Rattle.closing.proofs.Nets.{billable, this_within, charge_most}
 use Rattle.audit.specs.Book.{Book, Money, Period, is_reading, is_absence, prices, price_at, last_of, new_period, pool_with, with_reading}
@@ -34,8 +34,8 @@ module _ (holidays : List ℕ) (listed : list_allowed holidays ≡ true)
     {a : Account} {b : Book} (w : Matched a b) {day reading : ℕ} {fuel : Fuel} (p : ReadingPassed (head_of a) day reading fuel)
     (call : Call) (is-reading : is_reading call ≡ true) (no-absence : is_absence call ≡ false) where
   -- what the account makes of it
-  abbrev days : ℕ
-  days = days_of (start_of a.status) day
+  abbrev period : BillingPeriod
+  period = closed_period (start_of a.status) day fuel
 
   abbrev final : List ℕ
   final = made_final a day reading fuel
@@ -89,17 +89,16 @@ module _ (holidays : List ℕ) (listed : list_allowed holidays ≡ true)
   -- Bounds.
   price_within : price ≤ most_charge
   price_within =
-      let days_most : days ≤ most_days = omega (arith, p.day_most) in
+      let days_most : period.days ≤ most_days = omega (arith, p.day_most) in
       let this-most = this_within (standing_estimates a) (pool_to a.meter reading) p.pool_most in
-      price_most days fuel (of_this_period final)
-      (billable days fuel (of_this_period final) p.some_day days_most p.fuel_allowed this-most)
+      price_most period (of_this_period final) (billable period (of_this_period final) p.some_day days_most p.fuel_allowed this-most)
 
   charge_within : charge_of (closing_net a day reading fuel) ≤ 7 * most_charge
   charge_within =
       let facts = supplied.facts.meter in
       let few : length (standing_estimates a) ≤ most_misses =
       omega (arith, length-take a.estimates.count a.estimates.periods, facts.misses_most) in
-      charge_most (standing_estimates a) (pool_to a.meter reading) price few facts.estimates p.pool_most price_within
+      charge_most (standing_estimates a) (pool_to a.meter reading) price few (estimates_bounded a facts) p.pool_most price_within
 
   -- What stands after the closing.
   closed_after : Stands day ledger money (prices periods)

@@ -3,7 +3,7 @@ use Rattle.std.specs.Prelude.{Bool, true, false, cond, not, ◌&&◌, ◌||◌, 
 use Rattle.std.proofs.Math.IntN.{sub_ℕ}
 use Rattle.lists.specs.Sum.{total}
 use Rattle.duedays.specs.DueDays.{due_day}
-use Rattle.tariff.specs.{declared.Fuel.Fuel, Price.price_of}
+use Rattle.tariff.specs.{declared.Fuel.Fuel, declared.BillingPeriod.BillingPeriod, Price.price_of}
 use Rattle.meter.specs.{declared.Estimate.Estimate, Dial.advance, Sharing.final_volumes}
 use Rattle.ledger.specs.{declared.Kind.Kind, declared.Kind.TheVariants.Interest, declared.Kind.TheVariants.Price, declared.Item.Item}
 use Rattle.ledger.specs.Interest.{interest_on}
@@ -98,9 +98,13 @@ abbrev pub before_estimates : List Period → List Period
 before_estimates [] = []
 before_estimates (period ∷ periods) = cond (is_reading period.call) (period ∷ periods) (before_estimates periods)
 
--- The price of a period at its standing volume, with its own days and fuel prices.
+-- What its price depends on, beside its volume.
+abbrev pub billed_as : Period → BillingPeriod
+billed_as period = record { days = period.days; closing_day = period.closing_day; fuel = period.fuel }
+
+-- The price of a period at its standing volume, with its own days, fuel prices and closing day.
 abbrev pub price_at : Period → ℕ
-price_at period = price_of period.days period.fuel period.volume
+price_at period = price_of (billed_as period) period.volume
 
 abbrev pub prices : List Period → ℕ
 prices = total price_at
@@ -119,8 +123,7 @@ abbrev pub as_estimate : Period → Estimate
 as_estimate period =
     record {
       absent = is_absence period.call;
-      days = period.days;
-      fuel = period.fuel;
+      period = billed_as period;
       volume = period.volume;
       charged = price_at period;
     }

@@ -13,7 +13,7 @@ use Rattle.ledger.specs.{declared.Item.Item, declared.Queue.Queue, Posting.blank
 use Rattle.ledger.proofs.{Queues.next_asked, Queues.next_same, Queues.gathered_is}
 use Rattle.intake.specs.{declared.Call.Call, declared.Head.Head, Refusals.first_refusal}
 use Rattle.intake.specs.Heads.{HeadBounds, EstimatesFit}
-use Rattle.plan.specs.Plans.{changed, Room, passed_plan, passed_volumes, planned_volumes}
+use Rattle.plan.specs.Plans.{added_on, changed, changed_on, Room, passed_plan, passed_volumes, planned_volumes}
 use Rattle.plan.specs.{declared.Plan.Plan, declared.Change.Change}
 use Rattle.plan.specs.declared.Change.TheVariants.{Kept, Cleared, Added}
 use Rattle.closing.specs.Closing.{stored_estimates, StandingBounds}
@@ -65,12 +65,19 @@ module _ {holidays : List ℕ} {h : Head} {estimates : Estimates} {s : Standing}
   lain_within = whole_lying a s refl lain_whole
 
   -- The estimates behind a plan, where as many stand as before.
-  pub same_changed : (change : Change) → (changed change estimates).count ≡ estimates.count → changed change estimates ≡ estimates
-  same_changed Kept e = refl
-  same_changed Cleared e = sym (lain_tidy ∙ ap stored_estimates (ap (λ n. take n estimates.periods) (sym e)))
-  same_changed (Added estimate) e =
-      let count_is = ap (λ (x : Estimates). x.count) lain_tidy in
-      absurd (omega (arith, e, count_is, length-append (standing estimates) (estimate ∷ [])))
+  pub same_changed : (p : Plan) → (changed p estimates).count ≡ estimates.count → changed p estimates ≡ estimates
+  same_changed p = by_change p.change
+    where
+      By : Change → Type 0
+      By change = let after = changed_on p.head.latest p.estimated p.net change estimates in after.count ≡ estimates.count → after ≡ estimates
+
+      by_change : (change : Change) → By change
+      by_change Kept e = refl
+      by_change Cleared e = sym (lain_tidy ∙ ap stored_estimates (ap (λ n. take n estimates.periods) (sym e)))
+      by_change (Added absent days fuel) e =
+          let count_is = ap (λ (x : Estimates). x.count) lain_tidy in
+          let added = added_on p.head.latest p.estimated p.net absent days fuel in
+          absurd (omega (arith, e, count_is, length-append (standing estimates) (added ∷ [])))
 
   -- A refusal that is handed up.
   refused_comes : (o : Outcome) (x : Refusal) (after : Standing) (volumes : List ℕ) → o ≡ declined a (number_of x) → after ≡ s

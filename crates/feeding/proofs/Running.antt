@@ -159,9 +159,9 @@ module _ (before : Desk) {holidays input text : List ℕ} {d : Desk} {out : List
         come = rw done at t.comes
 
         abbrev changed_to : Estimates
-        changed_to = changed worked.plan.change d.estimates
+        changed_to = changed worked.plan d.estimates
 
-        pub running_changed : {estimates : Estimates} → estimates ≡ changed worked.plan.change after.estimates
+        pub running_changed : {estimates : Estimates} → estimates ≡ changed worked.plan after.estimates
             → Goes_on h estimates after.items
         running_changed is =
             rw (is, t.estimates_same, head_is)
@@ -170,8 +170,8 @@ module _ (before : Desk) {holidays input text : List ℕ} {d : Desk} {out : List
         pub running_kept : h.standing ≡ after.estimates.count → Goes_on h after.estimates after.items
         running_kept e =
             let count = come.counted ∙ sym (ap (λ (x : Head). x.standing) head_is) ∙ e ∙ ap (λ (x : Estimates). x.count) t.estimates_same in
-            let same = same_changed g.feedable worked.plan.change count in
-            running_changed (t.estimates_same ∙ sym same ∙ ap (changed worked.plan.change) (sym t.estimates_same))
+            let same = same_changed g.feedable worked.plan count in
+            running_changed (t.estimates_same ∙ sym same ∙ ap (changed worked.plan) (sym t.estimates_same))
 
       -- Refused.
       pub running_refused : (refusal : Refusal) {r : Result Worked Refusal} {after : Desk} {volumes : List ℕ}

@@ -54,9 +54,9 @@ answer_of w volumes items =
 
 -- What is worked of an accepted call: the account and the answer of its outcome.
 pub record Accepts (estimates : Estimates) (o : Outcome) (w : Worked) (after : Standing) (volumes : List ℕ) : Type 0 where
-  pub account_is : account_in w.plan.head (changed w.plan.change estimates) after ≡ o.account
+  pub account_is : account_in w.plan.head (changed w.plan estimates) after ≡ o.account
   pub answer_is : answer_of w volumes after ≡ o.answer
-  pub counted : (changed w.plan.change estimates).count ≡ w.plan.head.standing
+  pub counted : (changed w.plan estimates).count ≡ w.plan.head.standing
   pub room : Room w.plan.change estimates.count
   pub shown : length (take w.plan.count volumes) ≡ w.plan.count
 

@@ -125,7 +125,7 @@ fn feed_lines(desk: &mut Desk, holidays: Holidays<'_>, input: &[u8], out: &mut [
                 head = head_after(worked.plan);
                 // where their number stays, the estimates do too
                 if head.standing != desk.estimates.count {
-                    desk.estimates = account::calls::changed(worked.plan.change, desk.estimates);
+                    desk.estimates = account::calls::changed(worked.plan, &desk.estimates);
                 }
             }
             Err(refusal) => {

@@ -1,5 +1,6 @@
 -- The starred figures hold, each by computing the definitions. Assumes nothing.
 use Rattle.common.proofs.Words.{refl}
+use Rattle.tax.specs.Rate.{tax_rate}
 use Rattle.tariff.specs.Fuel.{average_price, price_change, steps, adjusted_unit}
 use Rattle.tariff.specs.Price.{full_month, basic_charge, band_volume, price_in, price_of}
 use Rattle.tariff.specs.Bands.{band_of}
@@ -10,7 +11,7 @@ use Rattle.closing.specs.Closing.{net_of}
 use Rattle.figures.specs.Starred.{Starred}
 
 pub starred : Starred
-unfolding average_price price_change steps adjusted_unit band_of full_month basic_charge band_volume price_in price_of span advance
+unfolding tax_rate average_price price_change steps adjusted_unit band_of full_month basic_charge band_volume price_in price_of span advance
     shared_pool final_volumes due_day body interest_on net_of
 starred =
     record {

@@ -2,18 +2,45 @@
 // closed days, a line each.
 #![tactic(auto)]
 
-ghost use Rattle.std.specs.Prelude.{◌≤◌};
+ghost use Rattle.std.specs.Prelude.{◌≡◌, ◌+◌, ◌≤◌};
 ghost use Rattle.figures.specs.Starred.{Starred};
 
 use account::Account;
 use calendar::{Date, Day};
+use intake::Status;
+use ledger::{Item, Kind};
 use meter::StandingPeriods;
 use samples::{FUEL, MISSED};
 use std::io;
+use tariff::{BillingPeriod, Fuel};
+use upgrade::closing_days::with_closing_days;
+
+// The average is 82,970, 120 below the base; and 84,850, 1,760 above it.
+const LOWER: Fuel = Fuel {
+    lng: 83_000,
+    propane: 75_000,
+};
+
+const HIGHER: Fuel = Fuel {
+    lng: 85_000,
+    propane: 75_000,
+};
+
+const CHEAPEST: Fuel = Fuel { lng: 0, propane: 0 };
+
+const DEAREST: Fuel = Fuel {
+    lng: 300_000,
+    propane: 300_000,
+};
 
 fn main(rt: HostRuntime) -> io::Result<()> {
     starred_figures();
     prices(&rt)?;
+    prices_by_tax(&rt)?;
+    extremes(&rt)?;
+    interest_by_tax(&rt)?;
+    revision_by_tax(&rt)?;
+    closing_days(&rt)?;
     half_span(&rt, 5_000)?;
     half_span(&rt, 5_001)?;
     after_one_miss(&rt, 40)?;
@@ -31,10 +58,124 @@ pub fn starred_figures()
 {}
 
 fn prices(rt: &impl Print) -> io::Result<()> {
-    println!(rt; "21 m3 in 30 days {}", tariff::price(30, FUEL, 21))?;
-    println!(rt; "80 m3 in 30 days {}", tariff::price(30, FUEL, 80))?;
-    println!(rt; "20 m3 in 25 days {}", tariff::price(25, FUEL, 20))?;
-    println!(rt; "0 m3 in 1 day {}", tariff::price(1, FUEL, 0))
+    println!(rt;
+        "21 m3 in 30 days {}",
+        tariff::price(closing(30, FUEL, 30), 21)
+    )?;
+    println!(rt;
+        "80 m3 in 30 days {}",
+        tariff::price(closing(30, FUEL, 30), 80)
+    )?;
+    println!(rt;
+        "20 m3 in 25 days {}",
+        tariff::price(closing(25, FUEL, 30), 20)
+    )?;
+    println!(rt; "0 m3 in 1 day {}", tariff::price(closing(1, FUEL, 30), 0))
+}
+
+// The base unit 18,000 on either side of the first day at ten per cent: 17,991 and 17,990, 18,150 and 18,153. A period that begins
+// before that day and closes from it on is wholly at ten per cent.
+fn prices_by_tax(rt: &impl Print) -> io::Result<()> {
+    for day in [7_212, 7_213, 7_220] {
+        let lower = tariff::price(closing(30, LOWER, day), 31);
+        let higher = tariff::price(closing(30, HIGHER, day), 40);
+        println!(rt;
+            "closing day {day}: 31 m3 at k 1 below {lower}, 40 m3 at k 17 above {higher}"
+        )?;
+    }
+    Ok(())
+}
+
+// The lowest unit, 9,649 and 9,513, and the dearest period.
+fn extremes(rt: &impl Print) -> io::Result<()> {
+    for day in [7_212, 7_213] {
+        let least = tariff::price(closing(30, CHEAPEST, day), 100);
+        let most = tariff::price(closing(36_495, DEAREST, day), 99_999);
+        println!(rt; "closing day {day}: 100 m3 at fuel 0 {least}, 99999 m3 in 36495 days {most}")?;
+    }
+    Ok(())
+}
+
+// The body by the obligation day.
+fn interest_by_tax(rt: &impl Print) -> io::Result<()> {
+    for day in [7_212, 7_213] {
+        let eleven = settled_late(15_650, day, 11);
+        let fourteen = settled_late(4_850, day, 14);
+        println!(rt;
+            "obligation day {day}: 15650 settled 11 days late {eleven}, 4850 14 days late {fourteen}"
+        )?;
+    }
+    Ok(())
+}
+
+// The interest of a price item that is settled so many days late.
+fn settled_late(amount: u64, obligation: u16, late: u16) -> u64
+    requires amount { amount ≤ 1000000000 }
+    requires days { obligation + 30 + late ≤ 36094 }
+{
+    let due = obligation + 30;
+    let item = Item {
+        amount,
+        unpaid: amount,
+        obligation,
+        due,
+        kind: Kind::Price,
+    };
+    item.interest_on(due + late)
+}
+
+// 80 m3 estimated in 30 days that close on 7,212, at unit 17,991 charged 15,642. The reading of 7,242 shares 62 m3: the estimate's 31 m3
+// are 6,827 at its own rate, this period's 6,826.
+fn revision_by_tax(rt: &impl Print) -> io::Result<()> {
+    let opened = Account::new().begin_supply(&[], 7_153, 0, 4).account;
+    let read = opened.read_meter(&[], 7_182, 80, LOWER).account;
+    let missed = read.miss_reading(&[], 7_212, LOWER);
+    let revised = missed.account.read_meter(&[], 7_242, 142, LOWER);
+    println!(rt;
+        "estimate of 7212 {}, revised on 7242: net {}",
+        missed.answer.net, revised.answer.net
+    )
+}
+
+// Closing days of an account kept from before, in place of 0: its third estimate closed on the day before the period that runs.
+fn closing_days(rt: &impl Print) -> io::Result<()> {
+    let mut kept = Account::new()
+        .begin_supply(&[], 60, 0, 4)
+        .account
+        .miss_reading(&[], 89, FUEL)
+        .account
+        .note_absence(&[], 120, FUEL)
+        .account
+        .miss_reading(&[], 150, FUEL)
+        .account;
+    for estimate in kept.estimates.periods.iter_mut() {
+        estimate.period.closing_day = 0;
+    }
+    show_closing_days(rt, kept, "supplied from 151")?;
+    kept.status = Status::Supplied { start: 50 };
+    show_closing_days(rt, kept, "supplied from 50")?;
+    kept.status = Status::Stopped { stop: 140 };
+    show_closing_days(rt, kept, "stopped")
+}
+
+fn show_closing_days(rt: &impl Print, kept: Account, name: &str) -> io::Result<()> {
+    let periods = with_closing_days(kept).estimates.periods;
+    print!(rt; "{name}, latest day 150:")?;
+    for estimate in periods {
+        print!(rt; " {}", estimate.period.closing_day)?;
+    }
+    println!(rt)
+}
+
+// A period of so many days at these prices, which closes on this day.
+fn closing(days: u16, fuel: Fuel, closing_day: u16) -> BillingPeriod
+    ensures { result ≡ record { days = days; closing_day = closing_day; fuel = fuel } }
+{
+    BillingPeriod {
+        days,
+        closing_day,
+        fuel,
+    }
 }
 
 fn half_span(rt: &impl Print, volume: u32) -> io::Result<()> {

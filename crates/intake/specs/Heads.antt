@@ -27,9 +27,9 @@ pub record HeadBounds (h : Head) : Type 0 where
 
 -- and of its estimates.
 pub record EstimateBounds (estimate : Estimate) : Type 0 where
-  pub days_least : 1 ≤ estimate.days
-  pub days_most : estimate.days ≤ most_days
-  pub fuel_allowed : fuel_allowed estimate.fuel ≡ true
+  pub days_least : 1 ≤ estimate.period.days
+  pub days_most : estimate.period.days ≤ most_days
+  pub fuel_allowed : fuel_allowed estimate.period.fuel ≡ true
   pub volume_most : estimate.volume ≤ most_volume
   pub charged_most : estimate.charged ≤ most_charge
 

@@ -1,13 +1,19 @@
 -- How large interest can be, and what bears it. Assumes nothing.
-use Rattle.common.proofs.Words.{◌≡◌, refl, Bool, true, false, cond, ◌&&◌, and-false, ℕ, ◌*◌, ◌/◌, ◌≤◌, le_trans, mul-le-mul, arith, ltb}
+use Rattle.common.proofs.Words.{◌≡◌, refl, Bool, true, false, cond, ◌&&◌, and-false, ℕ, ◌+◌, ◌*◌, ◌/◌, ◌≤◌, le_trans, mul-le-mul, arith, ltb}
 use Rattle.common.proofs.Words.{le-ltb}
+use Rattle.tax.specs.Rate.{tax_rate}
+use Rattle.tax.proofs.Rate.{at_rate}
 use Rattle.ledger.specs.Interest.{is_price, body, days_late, interest_on}
 use Rattle.ledger.specs.{declared.Item.Item, Limits.last_call_day, Limits.most_price, Limits.most_arisen}
 use Rattle.common.proofs.Cases.{cond_most}
 
-pub body_most : (amount : ℕ) → body amount ≤ amount
+-- The tax in an amount is a part of it.
+pub tax_most : (amount obligation : ℕ) → amount * tax_rate obligation / (100 + tax_rate obligation) ≤ amount
+tax_most amount = at_rate (λ rate. amount * rate / (100 + rate) ≤ amount) (omega arith) (omega arith)
+
+pub body_most : (amount obligation : ℕ) → body amount obligation ≤ amount
 unfolding body
-body_most amount = omega arith
+body_most amount obligation = omega arith
 
 module _ (item : Item) (day : ℕ) where
   -- Interest bears none.
@@ -29,8 +35,8 @@ module _ (item : Item) (day : ℕ) where
       late = omega arith
 
       by_kind : (b : Bool) → (b ≡ true → item.amount ≤ most_price)
-          → cond (b && ltb 10 (days_late item day)) (body item.amount * days_late item day * 274 / 1000000) 0 ≤ most_arisen
+          → cond (b && ltb 10 (days_late item day)) (body item.amount item.obligation * days_late item day * 274 / 1000000) 0 ≤ most_arisen
       by_kind true most =
-          let product = mul-le-mul (le_trans (body_most item.amount) (most refl)) late in
-          omega (arith, product, cond_most (ltb 10 (days_late item day)) (body item.amount * days_late item day * 274 / 1000000))
+          let product = mul-le-mul (le_trans (body_most item.amount item.obligation) (most refl)) late in
+          omega (arith, product, cond_most (ltb 10 (days_late item day)) (body item.amount item.obligation * days_late item day * 274 / 1000000))
       by_kind false most = omega arith

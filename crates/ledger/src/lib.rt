@@ -12,6 +12,7 @@ pub mod limits;
 pub mod numbers;
 
 use crate::limits::{CAPACITY, DAYS_OF_GRACE, MILLIONTHS_A_DAY};
+use tax::tax_rate;
 
 #[derive(Clone, Copy, PartialEq, Eq, Debug, Default)]
 pub enum Kind {
@@ -141,7 +142,8 @@ impl Item {
                 if late <= DAYS_OF_GRACE {
                     0
                 } else {
-                    body_of(self.amount) * u64::from(late) * MILLIONTHS_A_DAY / 1_000_000
+                    body_of(self.amount, self.obligation) * u64::from(late) * MILLIONTHS_A_DAY
+                        / 1_000_000
                 }
             }
         }
@@ -163,11 +165,12 @@ pub fn credit_of(net: i32) -> u64
     u64::from(net.min(0).unsigned_abs())
 }
 
-// The amount of a price without the tax in it: 27(2).
-#[tactic(auto, unfolding(crate::specs::Interest::body))]
-fn body_of(amount: u64) -> u64
+// The amount of a price without the tax in it, at the rate of its obligation day: 27(2).
+#[tactic(auto, using(crate::proofs::Interest::tax_most, tax::proofs::Rate::rate_most), unfolding(crate::specs::Interest::body))]
+fn body_of(amount: u64, obligation: u16) -> u64
     requires { amount ≤ most_price }
-    ensures { result ≡ body amount }
+    ensures { result ≡ body amount obligation }
 {
-    amount - amount * 8 / 108
+    let rate = u64::from(tax_rate(obligation));
+    amount - amount * rate / (100 + rate)
 }

@@ -51,7 +51,13 @@ share_taken absent left periods =
 
 -- What a place of the array without an estimate holds.
 abbrev pub blank : Estimate
-blank = record { absent = false; days = 0; fuel = record { lng = 0; propane = 0 }; volume = 0; charged = 0 }
+blank =
+    record {
+      absent = false;
+      period = record { days = 0; closing_day = 0; fuel = record { lng = 0; propane = 0 } };
+      volume = 0;
+      charged = 0;
+    }
 
 -- The standing estimates as a list.
 abbrev pub standing : Estimates → List Estimate

@@ -8,7 +8,7 @@ ghost use Rattle.meter.specs.Dial.{span, advance, within_half, Digits, OnDial};
 ghost use Rattle.meter.specs.Metering.{pool_to};
 ghost use Rattle.meter.specs.Sharing.{estimated, sharers, sharing, Shareable, share_taken, shared_pool, final_volumes, standing, filled_with, AtMostSix};
 
-use tariff::Fuel;
+use tariff::BillingPeriod;
 
 // The most estimates that can stand.
 pub const MOST_MISSES: usize = 6;
@@ -37,12 +37,12 @@ impl Meter {
     }
 }
 
-// A period billed on an estimate, until a reading makes its volume final. `absent` marks a period of known absence, 14(6).
+// A period billed on an estimate, until a reading makes its volume final. It keeps what its price depends on. `absent` marks a period of
+// known absence, 14(6).
 #[derive(Clone, Copy, PartialEq, Eq, Debug, Default)]
 pub struct Estimate {
     pub absent: bool,
-    pub days: u16,
-    pub fuel: Fuel,
+    pub period: BillingPeriod,
     pub volume: u32,
     pub charged: u32,
 }

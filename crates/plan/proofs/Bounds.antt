@@ -17,7 +17,7 @@ use Rattle.intake.specs.declared.Call.TheVariants.{Opening, Reading, Missed, Abs
 use Rattle.intake.specs.declared.Call.TheVariants.{Payment, StoppedCancellation}
 use Rattle.intake.specs.{declared.Head.Head, declared.Call.Call, Limits.most_misses, Limits.most_volume, Limits.most_charge}
 use Rattle.intake.specs.{Statuses.is_stopped, Statuses.start_of}
-use Rattle.intake.specs.{Periods.days_of, Refusals.reading_refusal, Refusals.miss_refusal, Refusals.first_refusal}
+use Rattle.intake.specs.{Periods.closed_period, Refusals.reading_refusal, Refusals.miss_refusal, Refusals.first_refusal}
 use Rattle.intake.specs.Heads.{HeadBounds, EstimateBounds}
 use Rattle.plan.specs.Plans.{changed, Room, miss_plan, read_plan, passed_plan}
 use Rattle.plan.specs.declared.Then.{Then}
@@ -28,9 +28,9 @@ use Rattle.closing.proofs.Ready.{reading_ready, read_net_bounds, miss_ready}
 
 module _ (h : Head) (w : HeadBounds h) where
   pub missed_most : (day : ℕ) (fuel : Fuel) (volume : ℕ) → volume ≤ most_volume → miss_refusal h day fuel ≡ 0
-      → price_of (days_of (start_of h.status) day) fuel volume ≤ most_charge
+      → price_of (closed_period (start_of h.status) day fuel) volume ≤ most_charge
   missed_most day fuel volume most e =
-      price_most (days_of (start_of h.status) day) fuel volume ((miss_ready h day fuel w e).priced volume most)
+      price_most (closed_period (start_of h.status) day fuel) volume ((miss_ready h day fuel w e).priced volume most)
 
   miss_within : (day : ℕ) (fuel : Fuel) (absent : Bool) (volume : ℕ) → volume ≤ most_volume → miss_refusal h day fuel ≡ 0
       → IfSome (miss_plan h day fuel absent volume).entry EntryBounds
@@ -82,7 +82,7 @@ module _ (h : Head) (estimates : Estimates)
   one_more : (estimate : Estimate) → length (standing estimates ++ (estimate ∷ [])) ≡ h.standing + 1
   one_more estimate = rw (length-append, length-take-le estimates.count estimates.periods, is)
 
-  pub counted : (call : Call) → let p = passed_plan h (standing estimates) call in (changed p.change estimates).count ≡ p.head.standing
+  pub counted : (call : Call) → let p = passed_plan h (standing estimates) call in (changed p estimates).count ≡ p.head.standing
   unfolding passed_plan
   counted (Opening _ _ _) = is
   counted (Reading _ _ _) = refl

@@ -1,7 +1,7 @@
 -- What a call plans: the head after it, what becomes of the estimates, what is asked of the ledger, and the numbers of its answer.
 use Rattle.std.specs.Prelude.{◌≡◌, Bool, true, false, cond, List, [], ◌∷◌, ◌++◌, ℕ, ◌+◌, ◌≤◌, ◌<◌, None, Some, Result, IfOk}
 use Rattle.common.specs.{declared.Refusal.Refusal, Refusals.told}
-use lib.{Dec.eqb, IntN.pos}
+use lib.{Dec.eqb, IntN.ℤ, IntN.pos}
 use Rattle.tariff.specs.{declared.Fuel.Fuel, Price.price_of}
 use Rattle.meter.specs.Metering.{set_on, exchanged_for, read_at, missed_at}
 use Rattle.meter.specs.{declared.Estimate.Estimate, declared.Estimates.Estimates, Sharing.standing}
@@ -12,7 +12,7 @@ use Rattle.intake.specs.declared.Status.{Status}
 use Rattle.intake.specs.declared.Status.TheVariants.{Supplied, Stopped, Cancelled}
 use Rattle.intake.specs.{declared.Head.Head, declared.Call.Call, Limits.most_misses, Heads.head_on}
 use Rattle.intake.specs.{Statuses.is_cancelled, Statuses.start_of, Statuses.stop_of}
-use Rattle.intake.specs.{Periods.days_of, Periods.day_after, Periods.resumed_start}
+use Rattle.intake.specs.{Periods.days_of, Periods.closed_period, Periods.day_after, Periods.resumed_start}
 use Rattle.intake.specs.Refusals.{reading_refusal, first_refusal}
 use Rattle.plan.specs.declared.Change.{Change}
 use Rattle.plan.specs.declared.Change.TheVariants.{Kept, Cleared, Added}
@@ -21,17 +21,31 @@ use Rattle.plan.specs.declared.Then.TheVariants.{Goes, Stops, Ends}
 use Rattle.plan.specs.{declared.ClosingRead.ClosingRead, declared.Plan.Plan}
 use Rattle.closing.specs.{declared.Figures.Figures, Closing.stored_estimates, Closing.finals, Closing.read_figures}
 
--- What becomes of the estimates.
-abbrev pub changed : Change → Estimates → Estimates
-changed Kept estimates = estimates
-changed Cleared estimates = stored_estimates []
-changed (Added estimate) estimates = stored_estimates (standing estimates ++ (estimate ∷ []))
+-- What becomes of the estimates. One that is added closes on this day, at this volume and net.
+module _ (day volume : ℕ) (net : ℤ) where
+  abbrev pub added_on : Bool → ℕ → Fuel → Estimate
+  added_on absent days fuel =
+      record {
+        absent = absent;
+        period = record { days = days; closing_day = day; fuel = fuel };
+        volume = volume;
+        charged = charge_of net;
+      }
+
+  abbrev pub changed_on : Change → Estimates → Estimates
+  changed_on Kept estimates = estimates
+  changed_on Cleared estimates = stored_estimates []
+  changed_on (Added absent days fuel) estimates = stored_estimates (standing estimates ++ (added_on absent days fuel ∷ []))
+
+-- They are the plan's.
+abbrev pub changed : Plan → Estimates → Estimates
+changed p estimates = changed_on p.head.latest p.estimated p.net p.change estimates
 
 -- One more estimate has a place.
 abbrev pub Room : Change → ℕ → Type 0
 Room Kept standing = 0 ≤ most_misses
 Room Cleared standing = 0 ≤ most_misses
-Room (Added estimate) standing = standing < most_misses
+Room (Added absent days fuel) standing = standing < most_misses
 
 -- What follows a reading: the next period, a stop, or the end.
 abbrev pub ends : Then → Bool
@@ -95,15 +109,13 @@ stopped_plan h day = asking_plan h Cancelled (held_entry day)
 -- 03 and 04: a missed reading.
 module _ (h : Head) (day : ℕ) (fuel : Fuel) (absent : Bool) (volume : ℕ) where
   abbrev pub miss_charge : ℕ
-  miss_charge = price_of (days_of (start_of h.status) day) fuel volume
+  miss_charge = price_of (closed_period (start_of h.status) day fuel) volume
 
   abbrev pub miss_plan : Plan
   miss_plan =
       record {
         head = head_on h (Supplied (day_after day)) day (missed_at h.meter volume) (h.standing + 1);
-        change =
-            Added
-            (record { absent = absent; days = days_of (start_of h.status) day; fuel = fuel; volume = volume; charged = miss_charge });
+        change = Added absent (days_of (start_of h.status) day) fuel;
         entry = Some (record { day = day; money = 0; charge = Some miss_charge; posts = false });
         estimated = volume;
         count = 0;

@@ -5,15 +5,14 @@ pub mod plans;
 
 use intake::Head;
 use ledger::Entry;
-use meter::Estimate;
 use tariff::Fuel;
 
-// What becomes of the estimates.
+// What becomes of the estimates. One that is added closes on the plan's day, and its volume and what is charged for it are the plan's.
 #[derive(Clone, Copy, PartialEq, Eq, Debug)]
 pub enum Change {
     Kept,
     Cleared,
-    Added { estimate: Estimate },
+    Added { absent: bool, days: u16, fuel: Fuel },
 }
 
 // What follows a reading: the next period, a stop, or the end.

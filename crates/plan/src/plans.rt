@@ -14,10 +14,10 @@ ghost use Rattle.meter.specs.Sharing.{filled_with};
 use crate::{Change, ClosingRead, Plan, Then};
 use closing::{Billing, Figures};
 use common::Refusal;
-use intake::periods::{days_of, resumed_start};
+use intake::periods::{closed_period, resumed_start};
 use intake::{Call, Head, Status};
 use ledger::{Entry, charge_of, credit_of};
-use meter::{Estimate, MOST_FINAL, Meter};
+use meter::{MOST_FINAL, Meter};
 use tariff::{Fuel, price};
 
 // Any call, over the estimates that stand. The three calls that read the meter to close a period go one road. Fuel prices are
@@ -241,15 +241,8 @@ fn estimate_period(billing: Billing<'_>, day: u16, fuel: Fuel, absent: bool, vol
     ensures { result ≡ miss_plan billing.entry.head day fuel absent volume }
 {
     let head = billing.head;
-    let days = days_of(head.status.start(), day);
-    let charged = price(u32::from(days), fuel, volume);
-    let estimate = Estimate {
-        absent,
-        days,
-        fuel,
-        volume,
-        charged,
-    };
+    let period = closed_period(head.status.start(), day, fuel);
+    let charged = price(period, volume);
     let head = Head {
         status: Status::Supplied { start: day + 1 },
         latest: day,
@@ -260,7 +253,11 @@ fn estimate_period(billing: Billing<'_>, day: u16, fuel: Fuel, absent: bool, vol
         standing: head.standing + 1,
     };
     Plan {
-        change: Change::Added { estimate },
+        change: Change::Added {
+            absent,
+            days: period.days,
+            fuel,
+        },
         entry: Some(charge_entry(day, u64::from(charged))),
         estimated: volume,
         net: charged as i32,

@@ -8,7 +8,7 @@ use intake::Status;
 use ledger::{Item, Kind, Ledger};
 use meter::{Estimate, Estimates, Meter};
 use std::io;
-use tariff::Fuel;
+use tariff::{BillingPeriod, Fuel};
 
 // k is 0 at these prices.
 pub const FUEL: Fuel = Fuel {
@@ -23,11 +23,17 @@ const METER: Meter = Meter {
     previous: 30,
 };
 
+// A period of 30 days, at the old rate of tax.
+pub const MONTH: BillingPeriod = BillingPeriod {
+    days: 30,
+    closing_day: 89,
+    fuel: FUEL,
+};
+
 // A missed period of 30 days and 30 m3.
 pub const MISSED: Estimate = Estimate {
     absent: false,
-    days: 30,
-    fuel: FUEL,
+    period: MONTH,
     volume: 30,
     charged: 6_650,
 };

@@ -75,23 +75,33 @@ fn meters(rt: &impl Print) -> io::Result<()> {
 fn estimate_days(rt: &impl Print) -> io::Result<()> {
     changed(
         rt,
-        |account| account.estimates.periods[1].days = 0,
+        |account| account.estimates.periods[1].period.days = 0,
         "estimate of 0 days",
     )?;
     changed(
         rt,
-        |account| account.estimates.periods[1].days = 1,
+        |account| account.estimates.periods[1].period.days = 1,
         "estimate of 1 day",
     )?;
     changed(
         rt,
-        |account| account.estimates.periods[1].days = 36_495,
+        |account| account.estimates.periods[1].period.days = 36_495,
         "estimate of 36495 days",
     )?;
     changed(
         rt,
-        |account| account.estimates.periods[1].days = 36_496,
+        |account| account.estimates.periods[1].period.days = 36_496,
         "estimate of 36496 days",
+    )?;
+    changed(
+        rt,
+        |account| account.estimates.periods[1].period.closing_day = 100,
+        "estimate closed on day 100, latest day 100",
+    )?;
+    changed(
+        rt,
+        |account| account.estimates.periods[1].period.closing_day = 101,
+        "estimate closed on day 101, latest day 100",
     )
 }
 
@@ -242,7 +252,7 @@ fn with_pool(pool: u32) -> Account {
 fn with_fuel(lng: u32, propane: u32) -> Account {
     but(
         supplied(),
-        |account| account.estimates.periods[1].fuel = Fuel { lng, propane },
+        |account| account.estimates.periods[1].period.fuel = Fuel { lng, propane },
     )
 }
 
@@ -250,7 +260,7 @@ fn with_fuel(lng: u32, propane: u32) -> Account {
 fn counted_estimates(count: usize) -> Account {
     but(supplied(), |account| {
         account.estimates.count = count;
-        account.estimates.periods[2].days = 0;
+        account.estimates.periods[2].period.days = 0;
     })
 }
 

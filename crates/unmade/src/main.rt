@@ -67,18 +67,23 @@ fn periods(rt: &impl Print) -> io::Result<()> {
     )?;
     changed(
         rt,
-        |new| new.estimates.periods[1].days = 1,
+        |new| new.estimates.periods[1].period.days = 1,
         "new, 1 day in the second place of the estimates",
     )?;
     changed(
         rt,
-        |new| new.estimates.periods[2].fuel.lng = 10,
+        |new| new.estimates.periods[2].period.fuel.lng = 10,
         "new, LNG 10 in the third place of the estimates",
     )?;
     changed(
         rt,
-        |new| new.estimates.periods[3].fuel.propane = 10,
+        |new| new.estimates.periods[3].period.fuel.propane = 10,
         "new, propane 10 in the fourth place of the estimates",
+    )?;
+    changed(
+        rt,
+        |new| new.estimates.periods[4].period.closing_day = 1,
+        "new, closing day 1 in the fifth place of the estimates",
     )?;
     changed(
         rt,

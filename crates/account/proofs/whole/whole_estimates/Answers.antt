@@ -7,6 +7,6 @@ use Rattle.account.proofs.whole.whole_estimates.Goals as goal
 
 pub returns : goal.returns
 returns c =
-    all_from_yields_List whole_estimate _ _ _ c.all.ensures.ran (YieldsList-from_slice c.args.estimates.now cc)
+    all_from_yields_List (whole_estimate c.args.latest) _ _ _ c.all.ensures.ran (YieldsList-from_slice c.args.estimates.now cc)
     (λ x b q k. search rules) ∙
-    sym (every_is_all whole_estimate c.args.estimates.now)
+    sym (every_is_all (whole_estimate c.args.latest) c.args.estimates.now)

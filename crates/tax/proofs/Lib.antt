@@ -1,0 +1,2 @@
+-- Laws of the rate of tax.
+pub mod Rate

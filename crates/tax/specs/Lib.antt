@@ -1,0 +1,2 @@
+-- Consumption tax.
+pub mod Rate

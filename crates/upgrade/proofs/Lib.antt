@@ -1,0 +1,5 @@
+-- Laws of accounts kept from before a change of their form.
+pub mod Places
+pub mod ClosingDays
+pub mod Turning
+pub mod Reached

@@ -1,0 +1,2 @@
+-- Accounts kept from before a change of their form.
+pub mod ClosingDays

@@ -1,0 +1,4 @@
+// Accounts kept from before a change of their form, taken to today's.
+#![tactic(auto)]
+
+pub mod closing_days;
