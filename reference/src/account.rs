@@ -29,6 +29,8 @@ pub enum Status {
 pub struct Estimate {
     /// True for 03, whose periods share; false for 04, which keep 0.
     pub shares: bool,
+    /// The closing day, whose tax rate it keeps.
+    pub closing: u32,
     pub days: u32,
     pub fuel: Fuel,
     pub volume: u32,
@@ -89,7 +91,8 @@ impl Account {
     }
 
     fn estimates_whole(&self) -> bool {
-        self.estimates.len() <= MOST_ESTIMATES && self.estimates.iter().all(estimate_whole)
+        self.estimates.len() <= MOST_ESTIMATES
+            && self.estimates.iter().all(|estimate| estimate_whole(estimate, self.latest))
     }
 
     fn ledger_whole(&self) -> bool {
@@ -109,8 +112,9 @@ impl Default for Account {
     }
 }
 
-fn estimate_whole(estimate: &Estimate) -> bool {
-    (1..=MOST_DAYS).contains(&estimate.days)
+fn estimate_whole(estimate: &Estimate, latest: u32) -> bool {
+    estimate.closing <= latest
+        && (1..=MOST_DAYS).contains(&estimate.days)
         && estimate.fuel.allowed()
         && estimate.volume <= MOST_POOL
         && estimate.charged <= MOST_CHARGE

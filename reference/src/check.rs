@@ -1,16 +1,18 @@
 //! One life checked: outputs byte for byte, both sums and wholeness after
 //! every line. Counts what was reached.
 
-use crate::account::{Account, Status};
+use crate::account::{Account, Estimate, Status};
 use crate::book::Book;
 use crate::calendar::{LAST_CALL_DAY, LAST_DAY};
 use crate::calls::{self, Answer, Call, What};
 use crate::closed::{self, Closed, MOST_CLOSED, TERM};
 use crate::frames;
-use crate::ledger::{Item, Kind, MOST_CREDIT, MOST_ITEMS};
+use crate::ledger::{interest, Item, Kind, MOST_CREDIT, MOST_ITEMS};
 use crate::meter::{self, MOST_POOL};
 use crate::notices;
 use crate::rule::Rule;
+use crate::tariff::{self, Fuel, BASE_AVERAGE};
+use crate::tax::RISE;
 
 /// The other side of the comparison.
 pub trait Other {
@@ -45,8 +47,15 @@ struct Step<'a> {
 
 type Edge = fn(&Step) -> bool;
 
+/// The edge that a third of the lives of a full run must reach. A life reaches
+/// it once at most.
+pub const ACROSS: &str = "lives across day 7,213 with an estimate standing";
+
+/// Lives of a full run.
+pub const FULL: u64 = 100_000;
+
 /// Edges that accepted calls reach.
-pub const EDGES: [(&str, EdgeTest); 27] = [
+pub const EDGES: [(&str, EdgeTest); 39] = [
     ("72 items open", EdgeTest(|s| s.after.ledger.items.len() == MOST_ITEMS)),
     ("six estimates stand", EdgeTest(|s| s.after.estimates.len() == 6)),
     ("advance of half the span", EdgeTest(|s| turned(s) == Some(meter::span(s.before.digits) / 2))),
@@ -82,15 +91,51 @@ pub const EDGES: [(&str, EdgeTest); 27] = [
     ("due day 36,524", EdgeTest(|s| posts(s, |item| item.due == LAST_DAY))),
     ("due day kept, the day before closed", EdgeTest(|s| kept_beside(s, TERM - 1))),
     ("due day kept, the day after closed", EdgeTest(|s| kept_beside(s, TERM + 1))),
-    ("10 days late from a moved day", EdgeTest(|s| settles(s, |item| late(s, item.due) == 10))),
-    ("11 days late from a moved day", EdgeTest(|s| settles(s, |item| late(s, item.due) == 11))),
+    (
+        "10 days late from a moved day",
+        EdgeTest(|s| settles_moved(s, |item| late(s, item.due) == 10)),
+    ),
+    (
+        "11 days late from a moved day",
+        EdgeTest(|s| settles_moved(s, |item| late(s, item.due) == 11)),
+    ),
     (
         "moved, 10 days late if it weren't",
-        EdgeTest(|s| settles(s, |item| late(s, item.obligation + TERM) == 10)),
+        EdgeTest(|s| settles_moved(s, |item| late(s, item.obligation + TERM) == 10)),
     ),
     (
         "moved, 11 days late if it weren't",
-        EdgeTest(|s| settles(s, |item| late(s, item.obligation + TERM) == 11)),
+        EdgeTest(|s| settles_moved(s, |item| late(s, item.obligation + TERM) == 11)),
+    ),
+    (ACROSS, EdgeTest(crosses_with_an_estimate)),
+    ("period closing on 7,212", EdgeTest(|s| closes_on(s, RISE - 1))),
+    ("period closing on 7,213", EdgeTest(|s| closes_on(s, RISE))),
+    ("estimate of the old rate revised at the new", EdgeTest(|s| revises_old(s, |_| true))),
+    (
+        "estimate closed on 7,212 revised from 7,213 on",
+        EdgeTest(|s| revises_old(s, |e| e.closing == RISE - 1)),
+    ),
+    ("estimates of both rates revised at once", EdgeTest(revises_both)),
+    (
+        "old-rate estimate revised, unit above the base",
+        EdgeTest(|s| revises_old(s, |e| moved_up(e.fuel))),
+    ),
+    (
+        "old-rate estimate revised, unit below the base",
+        EdgeTest(|s| revises_old(s, |e| moved_down(e.fuel))),
+    ),
+    (
+        "interest at 8/108 settled from 7,213 on",
+        EdgeTest(|s| s.call.day >= RISE && interest_of(s, |item| item.obligation < RISE)),
+    ),
+    ("interest at 10/110", EdgeTest(|s| interest_of(s, |item| item.obligation >= RISE))),
+    (
+        "interest, obligation day 7,212",
+        EdgeTest(|s| interest_of(s, |item| item.obligation == RISE - 1)),
+    ),
+    (
+        "interest, obligation day 7,213",
+        EdgeTest(|s| interest_of(s, |item| item.obligation == RISE)),
     ),
 ];
 
@@ -122,8 +167,7 @@ fn resumed_on_stop_day(step: &Step) -> bool {
 }
 
 fn shared(step: &Step) -> bool {
-    let volumes = step.before.estimates.iter().map(|e| e.volume);
-    volumes.zip(&step.answer.finals).any(|(estimated, &last)| estimated != last)
+    revises(step, |_| true)
 }
 
 fn is_payment(call: &Call) -> bool {
@@ -153,21 +197,69 @@ fn kept_beside(step: &Step, term: u32) -> bool {
     posts(step, |item| moved_by(item) == 0) && closed::is_listed(step.call.day + term, step.closed)
 }
 
-/// Whether the call settles a price item with a moved due day that passes the
-/// test. No two price items have the same obligation day.
+/// Whether the call settles a price item that passes the test. No two price
+/// items have the same obligation day.
 fn settles(step: &Step, test: impl Fn(&Item) -> bool) -> bool {
     let stands = |item: &Item| {
         let same = |other: &Item| other.kind == item.kind && other.obligation == item.obligation;
         step.after.ledger.items.iter().any(same)
     };
-    let moved = |item: &&Item| item.kind == Kind::Price && moved_by(item) > 0;
-    let mut candidates = step.before.ledger.items.iter().filter(moved);
+    let price = |item: &&Item| item.kind == Kind::Price;
+    let mut candidates = step.before.ledger.items.iter().filter(price);
     candidates.any(|item| test(item) && !stands(item))
+}
+
+/// Whether it settles such an item with a moved due day.
+fn settles_moved(step: &Step, test: impl Fn(&Item) -> bool) -> bool {
+    settles(step, |item| moved_by(item) > 0 && test(item))
+}
+
+/// Whether it settles such an item that bears interest.
+fn interest_of(step: &Step, test: impl Fn(&Item) -> bool) -> bool {
+    let bears = |item: &Item| {
+        interest(item.amount, item.obligation, item.due, step.call.day, Rule::Right) > 0
+    };
+    settles(step, |item| test(item) && bears(item))
 }
 
 /// Days from a due day to the call, 0 before it.
 fn late(step: &Step, due: u32) -> u32 {
     step.call.day.saturating_sub(due)
+}
+
+/// Whether the call is the first from 7,213 on and finds an estimate standing,
+/// which then closed before.
+fn crosses_with_an_estimate(step: &Step) -> bool {
+    step.before.latest < RISE && step.call.day >= RISE && !step.before.estimates.is_empty()
+}
+
+fn closes_on(step: &Step, day: u32) -> bool {
+    step.call.day == day && calls::closes(step.call)
+}
+
+/// Whether the call gives another volume to an estimate that passes the test.
+fn revises(step: &Step, test: impl Fn(&Estimate) -> bool) -> bool {
+    let mut estimates = step.before.estimates.iter().zip(&step.answer.finals);
+    estimates.any(|(estimate, &last)| estimate.volume != last && test(estimate))
+}
+
+/// The same of an estimate closed before 7,213, by a call from that day on.
+fn revises_old(step: &Step, test: impl Fn(&Estimate) -> bool) -> bool {
+    step.call.day >= RISE && revises(step, |e| e.closing < RISE && test(e))
+}
+
+fn revises_both(step: &Step) -> bool {
+    revises(step, |e| e.closing < RISE) && revises(step, |e| e.closing >= RISE)
+}
+
+fn moved_up(fuel: Fuel) -> bool {
+    let average = tariff::average(fuel);
+    average > BASE_AVERAGE && tariff::steps(average) > 0
+}
+
+fn moved_down(fuel: Fuel) -> bool {
+    let average = tariff::average(fuel);
+    average < BASE_AVERAGE && tariff::steps(average) > 0
 }
 
 /// What was reached.
@@ -191,6 +283,18 @@ impl Counts {
         for (sum, count) in self.edges.iter_mut().zip(&other.edges) {
             *sum += count;
         }
+    }
+
+    /// How often an edge was reached.
+    pub fn edge(&self, name: &str) -> u64 {
+        let place = EDGES.iter().position(|edge| edge.0 == name);
+        self.edges[place.expect("a name among the edges")]
+    }
+
+    /// Whether too few lives of a full run crossed 7,213 with an estimate
+    /// standing: fewer than a third.
+    pub fn too_few_cross(&self, lives: u64) -> bool {
+        lives >= FULL && 3 * self.edge(ACROSS) < lives
     }
 
     fn count(&mut self, number: u8) {

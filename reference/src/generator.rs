@@ -1,5 +1,6 @@
 //! Seeded lives of accounts as lists of lines. A model account, the
-//! reference's own, lets a profile aim at a limit.
+//! reference's own, lets a profile aim at a limit. A part of the lives is moved
+//! to the days about the rise of the tax.
 
 use crate::account::{Account, Status};
 use crate::calendar::LAST_CALL_DAY;
@@ -9,9 +10,10 @@ use crate::frames;
 use crate::ledger::MOST_PAYMENT;
 use crate::lists;
 use crate::meter;
-use crate::profiles::PROFILES;
+use crate::profiles::{OWN_DAYS, PROFILES};
 use crate::rule::Rule;
 use crate::tariff::{Fuel, MOST_FUEL_PRICE};
+use crate::tax::RISE;
 
 // ---- Numbers ----
 
@@ -68,21 +70,49 @@ pub struct Life {
 /// The life with a number, always the same for a seed.
 pub fn life(seed: u64, index: u64) -> Life {
     let seed = seed_of(seed, index);
-    let (profile, plain) = lines(seed, &[]);
+    let (profile, drawn) = made(seed, None, &[]);
+    let first = moved_first_day(seed, profile, &drawn);
+    let moved = first.map(|_| made(seed, first, &[]).1);
+    let plain = moved.unwrap_or(drawn).finish();
     let (list, closed) = lists::list(seed, PROFILES[profile].0, &plain);
     // The days of the life without a list tell which days to close. A profile
     // then aims with the list; a broken one leaves the lines as they were.
     let aims = !closed.list().is_empty() && closed::allowed(closed.list());
-    let input = if aims { lines(seed, closed.list()).1 } else { plain };
+    let input = if aims { made(seed, first, closed.list()).1.finish() } else { plain };
     Life { profile, list, input, closed }
 }
 
-/// A profile's place and its lines.
-fn lines(seed: u64, closed: &[u16]) -> (usize, Vec<u8>) {
-    let mut maker = Maker::with_closed(seed, closed);
+/// A profile's place and the maker with its lines; it begins on a first day if
+/// one is given.
+fn made(seed: u64, first: Option<u32>, closed: &[u16]) -> (usize, Maker) {
+    let mut maker = Maker { first, ..Maker::with_closed(seed, closed) };
     let profile = pick(&mut maker.numbers, &PROFILES.map(|profile| profile.1));
     (PROFILES[profile].2)(&mut maker);
-    (profile, maker.finish())
+    (profile, maker)
+}
+
+/// Of a hundred lives, so many are moved to the rise of the tax.
+const MOVED: u32 = 53;
+
+/// The first day that brings the rise of the tax between two calls of a life,
+/// with an estimate standing if one ever stood; none if the life stays.
+fn moved_first_day(seed: u64, profile: usize, drawn: &Maker) -> Option<u32> {
+    let mut numbers = Numbers::new(seed.rotate_left(32));
+    if OWN_DAYS.contains(&PROFILES[profile].0) || !numbers.chance(MOVED) {
+        return None;
+    }
+    let stood = drawn.gaps.iter().any(|gap| gap.estimated);
+    let gaps: Vec<Gap> = drawn.gaps.iter().copied().filter(|g| g.estimated == stood).collect();
+    if gaps.is_empty() {
+        return None;
+    }
+    let Gap { from, to, .. } = numbers.pick(&gaps);
+    let rise = match numbers.below(3) {
+        0 => from + 1,
+        1 => to,
+        _ => numbers.between(from + 1, to),
+    };
+    (drawn.opening + RISE).checked_sub(rise)
 }
 
 /// A place, each as often as its weight tells.
@@ -98,6 +128,32 @@ pub fn pick(numbers: &mut Numbers, weights: &[u32]) -> usize {
 
 // ---- The maker of one life ----
 
+/// Days from one accepted call, or from the closing of an estimate that still
+/// stands, to the next call.
+#[derive(Clone, Copy)]
+struct Gap {
+    from: u32,
+    to: u32,
+    estimated: bool,
+}
+
+impl Gap {
+    /// The gap that the next accepted call ends; none before an opening.
+    fn of(account: &Account) -> Option<Gap> {
+        if account.status == Status::New {
+            return None;
+        }
+        let estimate = account.estimates.last();
+        let from = estimate.map_or(account.latest, |estimate| estimate.closing);
+        Some(Gap { from, to: from, estimated: estimate.is_some() })
+    }
+
+    /// None if it has no days.
+    fn up_to(self, to: u32) -> Option<Gap> {
+        (self.from < to).then_some(Gap { to, ..self })
+    }
+}
+
 /// Makes the lines of one life.
 pub struct Maker {
     pub numbers: Numbers,
@@ -106,6 +162,11 @@ pub struct Maker {
     pub lines: usize,
     input: Vec<u8>,
     closed: Vec<u16>,
+    /// The first day of a life that is moved.
+    first: Option<u32>,
+    /// The opening day that was drawn, 0 if none was.
+    opening: u32,
+    gaps: Vec<Gap>,
 }
 
 impl Maker {
@@ -121,6 +182,9 @@ impl Maker {
             lines: 0,
             input: Vec::new(),
             closed: closed.to_vec(),
+            first: None,
+            opening: 0,
+            gaps: Vec::new(),
         }
     }
 
@@ -143,8 +207,12 @@ impl Maker {
         self.input.push(b'\n');
         self.lines += 1;
         let account = std::mem::take(&mut self.account);
+        let gap = Gap::of(&account);
         let (account, answer) =
             calls::take(account, frames::parse(line), &self.closed, Rule::Right);
+        if answer.number == 0 {
+            self.gaps.extend(gap.and_then(|gap| gap.up_to(account.latest)));
+        }
         self.account = account;
         answer.number
     }
@@ -158,7 +226,7 @@ impl Maker {
     // Where the account stands.
 
     pub fn now(&self) -> u32 {
-        self.account.latest
+        self.account.latest.max(self.first.unwrap_or(0))
     }
 
     pub fn after(&mut self, low: u32, high: u32) -> u32 {
@@ -245,8 +313,14 @@ impl Maker {
         self.send(day, What::Opening { reading, digits })
     }
 
+    /// A day up to one, or the first day of a life that is moved.
+    pub fn opening_day(&mut self, last_day: u32) -> u32 {
+        self.opening = self.numbers.between(0, last_day);
+        self.first.unwrap_or(self.opening)
+    }
+
     pub fn open(&mut self, last_day: u32) -> u8 {
-        let day = self.numbers.between(0, last_day);
+        let day = self.opening_day(last_day);
         let digits = self.digits();
         self.open_on(day, digits)
     }

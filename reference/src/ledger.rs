@@ -2,6 +2,7 @@
 
 use crate::closed::{self, TERM};
 use crate::rule::Rule;
+use crate::tax;
 
 pub const MOST_ITEMS: usize = 72;
 pub const MOST_CREDIT: u64 = 999_999_999;
@@ -31,14 +32,20 @@ pub fn due_day(obligation: u32, closed: &[u16], rule: Rule) -> u32 {
     }
 }
 
-/// The interest of a price item settled on a day (27).
-pub fn interest(amount: u64, due: u32, day: u32, rule: Rule) -> u64 {
+/// The interest of a price item settled on a day (27). The tax that its body
+/// leaves out is that of its obligation day.
+pub fn interest(amount: u64, obligation: u32, due: u32, day: u32, rule: Rule) -> u64 {
     let late = u64::from(day.saturating_sub(due));
     if late <= 10 {
         return 0;
     }
     let counted = if rule == Rule::LateFromEleventh { late - 10 } else { late };
-    let body = amount - amount * 8 / 108;
+    let taxed = match rule {
+        Rule::SettlingBody => day,
+        Rule::DueBody => due,
+        _ => obligation,
+    };
+    let body = amount - tax::within(amount, taxed, rule);
     body * counted * 274 / 1_000_000
 }
 
@@ -96,7 +103,9 @@ impl Ledger {
 fn interest_of(settled: &Item, day: u32, rule: Rule) -> u64 {
     match settled.kind {
         Kind::Interest => 0,
-        Kind::Price => interest(settled.amount, late_from(settled, rule), day, rule),
+        Kind::Price => {
+            interest(settled.amount, settled.obligation, late_from(settled, rule), day, rule)
+        }
     }
 }
 

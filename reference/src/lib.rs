@@ -22,6 +22,7 @@ pub mod profiles;
 pub mod rule;
 pub mod shrink;
 pub mod tariff;
+pub mod tax;
 
 use account::Account;
 use rule::Rule;

@@ -9,14 +9,19 @@ use crate::generator::Maker;
 use crate::ledger::{MOST_CREDIT, MOST_ITEMS, MOST_PAYMENT};
 use crate::meter::MOST_POOL;
 use crate::tariff::Fuel;
+use crate::tax::RISE;
 
 pub type Profile = fn(&mut Maker);
 
 /// A name that lists of closed days go by.
 pub const END_OF_CALENDAR: &str = "end of calendar";
+const RISE_OF_THE_TAX: &str = "rise of the tax";
+
+/// Profiles that choose their days themselves.
+pub const OWN_DAYS: [&str; 2] = [END_OF_CALENDAR, RISE_OF_THE_TAX];
 
 /// Name, weight and maker of each profile.
-pub const PROFILES: [(&str, u32, Profile); 23] = [
+pub const PROFILES: [(&str, u32, Profile); 24] = [
     ("monthly", 12, monthly),
     ("late payer", 8, late_payer),
     ("misses", 10, misses),
@@ -40,6 +45,7 @@ pub const PROFILES: [(&str, u32, Profile); 23] = [
     ("far days", 3, far_days),
     ("long", 1, long),
     ("ten days late", 4, ten_days_late),
+    (RISE_OF_THE_TAX, 5, rise_of_the_tax),
 ];
 
 // ---- Plausible lives ----
@@ -499,7 +505,7 @@ fn roll_over(m: &mut Maker) {
 
 /// Meter changes that take the pool to 99,999 and past it.
 fn pool_limit(m: &mut Maker) {
-    let day = m.numbers.below(30_000);
+    let day = m.opening_day(29_999);
     m.open_on(day, 5);
     for _ in 0..m.numbers.between(2, 6) {
         fill_pool(m);
@@ -558,6 +564,52 @@ fn end_of_calendar(m: &mut Maker) {
         };
     }
     m.end();
+}
+
+/// Estimates and items of the last days of the old tax rate and of the first
+/// of the new; small readings that revise, and late payments.
+fn rise_of_the_tax(m: &mut Maker) {
+    let (day, digits) = (RISE - m.numbers.between(40, 300), m.digits());
+    m.open_on(day, digits);
+    let (day, advance) = (m.after(5, 35), m.numbers.between(5, 900));
+    m.read(day, advance);
+    for _ in 0..m.numbers.below(4) {
+        let day = m.after(1, 40).min(RISE - 3);
+        m.miss(day);
+    }
+    for (day, percent) in [(RISE - 2, 10), (RISE - 1, 60), (RISE, 60), (RISE + 1, 10)] {
+        if m.numbers.chance(percent) {
+            close_or_miss(m, day);
+        }
+    }
+    for _ in 0..m.numbers.between(1, 4) {
+        close_after_misses(m);
+        pay_late(m);
+    }
+    for _ in 0..m.numbers.below(6) {
+        month(m, 60);
+    }
+    m.end();
+}
+
+fn close_or_miss(m: &mut Maker, day: u32) {
+    match m.numbers.below(4) {
+        0 => m.close(day),
+        1 => m.absent(day),
+        _ => m.miss(day),
+    };
+}
+
+/// Pays the oldest item or all, most often more than ten days after the oldest
+/// one's due day.
+fn pay_late(m: &mut Maker) {
+    let Some(oldest) = m.account.ledger.items.first().copied() else {
+        return;
+    };
+    let day = oldest.due + m.numbers.pick(&[0, 10, 11, 12, 14, 30, 300]);
+    let yen = m.numbers.pick(&[oldest.unpaid as u32, m.unpaid()]);
+    let day = day.max(m.now());
+    m.pay(day, yen);
 }
 
 /// Items paid 9 to 12 days after their due day, or after the day that would be

@@ -1,10 +1,10 @@
-//! The right rules, or the right rules but one ("Plausible blunders", and two
-//! about closed days).
+//! The right rules, or the right rules but one ("Plausible blunders", two
+//! about closed days and seven about the tax of ten per cent).
 
 #[derive(Clone, Copy, Debug, PartialEq, Eq)]
 pub enum Rule {
     Right,
-    /// 8.856 × k is cut before it is added or taken off.
+    /// 8.856 × k, or 9.02 × k, is cut before it is added or taken off.
     CutFirst,
     /// The band follows the raw volume in a short or long period too.
     RawBand,
@@ -18,10 +18,24 @@ pub enum Rule {
     UnmovedLate,
     /// A due day that is listed is kept.
     ListedKept,
+    /// 9.02 × k alone is cut before it is added or taken off.
+    CutFirstAtTen,
+    /// The rate is still 8 per cent on day 7,213.
+    RateLate,
+    /// The rate is 10 per cent on day 7,212 already.
+    RateEarly,
+    /// A period has the rate of its first day.
+    FirstDayRate,
+    /// A revision is priced at the rate of the closing.
+    TodaysRate,
+    /// The body leaves out the tax of the settling day.
+    SettlingBody,
+    /// The body leaves out the tax of the due day.
+    DueBody,
 }
 
 impl Rule {
-    pub const BLUNDERS: [(&'static str, Rule); 7] = [
+    pub const BLUNDERS: [(&'static str, Rule); 14] = [
         ("cut-first", Rule::CutFirst),
         ("raw-band", Rule::RawBand),
         ("meter-closes", Rule::MeterCloses),
@@ -29,6 +43,13 @@ impl Rule {
         ("todays-fuel", Rule::TodaysFuel),
         ("unmoved-late", Rule::UnmovedLate),
         ("listed-kept", Rule::ListedKept),
+        ("cut-first-at-ten", Rule::CutFirstAtTen),
+        ("rate-late", Rule::RateLate),
+        ("rate-early", Rule::RateEarly),
+        ("first-day-rate", Rule::FirstDayRate),
+        ("todays-rate", Rule::TodaysRate),
+        ("settling-body", Rule::SettlingBody),
+        ("due-body", Rule::DueBody),
     ];
 
     /// The right rules, unless the feature `wrong-rule` is on.

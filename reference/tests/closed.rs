@@ -88,7 +88,7 @@ fn lateness_counts_from_the_moved_day() {
         run.ok(payment(day, 4_850));
         assert_eq!(run.account.ledger.held, held, "day {day}");
     }
-    assert_eq!(interest(4_850, 59, 73, Rule::Right), 17);
+    assert_eq!(interest(4_850, 29, 59, 73, Rule::Right), 17);
 }
 
 #[test]

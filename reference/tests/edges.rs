@@ -8,8 +8,9 @@ use reference::ledger::{interest, Kind};
 use reference::rule::Rule;
 use reference::tariff::{price, Fuel};
 
+/// Of a period from day 0 on.
 fn at_base(days: u32, volume: u32) -> i64 {
-    price(days, BASE, volume, Rule::Right) as i64
+    price(days - 1, days, BASE, volume, Rule::Right) as i64
 }
 
 // ---- Days ----
@@ -120,7 +121,7 @@ fn revision_keeps_its_own_days_and_fuel() {
     let charged = run.ok(miss).net;
     let answer = run.ok(reading(69, 110));
     assert_eq!(answer.finals, [5, 5]);
-    let revised = price(10, dear, 5, Rule::Right) as i64;
+    let revised = price(39, 10, dear, 5, Rule::Right) as i64;
     assert_eq!(answer.net, at_base(30, 5) + revised - charged);
 }
 
@@ -206,7 +207,7 @@ fn closing_that_settles_late_items_holds_their_interest() {
     let answer = run.ok(reading(90, 910));
     assert!(answer.net < 0);
     assert_eq!(answer.interest, 0);
-    let expected = interest(first, 30, 90, Rule::Right);
+    let expected = interest(first, 0, 30, 90, Rule::Right);
     assert!(expected > 0);
     assert!(run.account.ledger.held >= expected);
 }
@@ -275,7 +276,8 @@ fn payment_on_a_cancelled_account_posts_its_interest() {
 #[test]
 fn interest_of_one_call_is_one_item() {
     let mut run = Run::of(&[opening(0, 0, 4), reading(29, 20), cancellation(59, 40)]);
-    let expected = interest(4_850, 59, 200, Rule::Right) + interest(4_850, 89, 200, Rule::Right);
+    let expected =
+        interest(4_850, 29, 59, 200, Rule::Right) + interest(4_850, 59, 89, 200, Rule::Right);
     assert_eq!(run.ok(payment(200, 9_700)).interest, expected);
     assert_eq!(run.open_items(), 1);
     assert_eq!(run.account.ledger.items[0].amount, expected);
@@ -289,7 +291,7 @@ fn cancellation_with_a_net_below_zero_posts_its_own_interest() {
     run.ok(payment(60, first as u32 - 1));
     let answer = run.ok(cancellation(200, 900)).clone();
     assert!(answer.net < 0);
-    let expected = interest(first, 59, 200, Rule::Right);
+    let expected = interest(first, 29, 59, 200, Rule::Right);
     let refund = answer.net.unsigned_abs();
     assert!(refund < second);
     assert_eq!(answer.interest, expected);
@@ -309,7 +311,7 @@ fn cancellation_posts_held_and_own_interest_as_two_items() {
     run.ok(payment(101, second as u32 - 1));
     let answer = run.ok(cancellation(300, 920)).clone();
     assert!(answer.net < 0);
-    let own = interest(second, 89, 300, Rule::Right);
+    let own = interest(second, 59, 89, 300, Rule::Right);
     assert_eq!(answer.interest, held + own);
     let kinds: Vec<Kind> = run.account.ledger.items.iter().map(|item| item.kind).collect();
     assert_eq!(kinds, [Kind::Price, Kind::Interest, Kind::Interest]);
@@ -325,7 +327,7 @@ fn largest_interest_fits() {
     run.ok(reading_at(0, 49_999, dear));
     let unpaid = run.answer.unpaid;
     run.ok(payment(36_094, unpaid as u32));
-    assert_eq!(run.account.ledger.held, interest(unpaid, 30, 36_094, Rule::Right));
+    assert_eq!(run.account.ledger.held, interest(unpaid, 0, 30, 36_094, Rule::Right));
     assert!(run.account.ledger.held > 100_000_000);
     assert_eq!(run.call(reading(36_094, 49_999)), 0);
 }

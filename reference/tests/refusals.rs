@@ -263,7 +263,7 @@ type Breaks = fn(&mut Account);
 fn accounts_that_are_not_whole() {
     let sound = Run::of(&[opening(0, 0, 4), reading(29, 30), missed(59)]).account;
     assert!(sound.whole());
-    let breaks: [Breaks; 22] = [
+    let breaks: [Breaks; 23] = [
         |a| a.status = Status::New,
         |a| a.latest = 36_095,
         |a| a.status = Status::Supplied { start: 61 },
@@ -273,6 +273,7 @@ fn accounts_that_are_not_whole() {
         |a| a.pool = 100_000,
         |a| a.previous = 100_000,
         |a| a.estimates = vec![a.estimates[0]; 7],
+        |a| a.estimates[0].closing = 60,
         |a| a.estimates[0].days = 0,
         |a| a.estimates[0].days = 36_496,
         |a| a.estimates[0].fuel.lng = 5,

@@ -5,7 +5,8 @@ mod common;
 use common::*;
 use reference::account::Account;
 use reference::book::Book;
-use reference::calls::Call;
+use reference::calls::{take, Call};
+use reference::rule::Rule;
 
 /// Feeds both; the book must agree after every call.
 struct Pair {
@@ -125,6 +126,54 @@ fn lateness_from_another_day_breaks_the_yen() {
         pair.call(call);
     }
     assert!(!pair.yen_agree());
+}
+
+/// 130 m³ in 30 days, an estimate of them closed so many days after 7,212, and
+/// 122 m³ in all; the first bill is paid late.
+fn across_the_rise(after: u32) -> [Call; 6] {
+    [
+        opening(7_153 + after, 0, 4),
+        reading_at(7_182 + after, 130, CHEAP),
+        missed_at(7_212 + after, CHEAP),
+        reading_at(7_242 + after, 252, CHEAP),
+        payment(7_312 + after, 60_000),
+        reading_at(7_313 + after, 300, DEAR),
+    ]
+}
+
+#[test]
+fn sums_hold_across_the_rise_of_the_tax() {
+    for after in 0..3 {
+        Pair::new().agree(&across_the_rise(after));
+    }
+}
+
+/// Whether the yen agree at the end of a life by a rule.
+fn yen_agree_by(rule: Rule, calls: &[Call]) -> bool {
+    let (mut account, mut book) = (Account::new(), Book::new(&[]));
+    for call in calls {
+        let (after, answer) = take(account, Some(*call), &[], rule);
+        assert_eq!(answer.number, 0);
+        book.feed(call, answer.number);
+        account = after;
+    }
+    book.yen_agree(account.ledger.unpaid(), account.ledger.held, account.ledger.credit)
+}
+
+#[test]
+fn a_blunder_about_the_tax_breaks_the_yen() {
+    for rule in [
+        Rule::CutFirstAtTen,
+        Rule::RateLate,
+        Rule::RateEarly,
+        Rule::FirstDayRate,
+        Rule::TodaysRate,
+        Rule::SettlingBody,
+        Rule::DueBody,
+    ] {
+        assert!((0..2).any(|after| !yen_agree_by(rule, &across_the_rise(after))), "{rule:?}");
+    }
+    assert!((0..2).all(|after| yen_agree_by(Rule::Right, &across_the_rise(after))));
 }
 
 #[test]

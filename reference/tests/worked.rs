@@ -8,12 +8,13 @@ use reference::meter::{advance, share};
 use reference::rule::Rule;
 use reference::tariff::{adjusted_unit, average, price, steps, Fuel};
 
+/// Of a period from day 0 on.
 fn at_base(days: u32, volume: u32) -> u64 {
-    price(days, BASE, volume, Rule::Right)
+    price(days - 1, days, BASE, volume, Rule::Right)
 }
 
 fn unit(lng: u32) -> u64 {
-    adjusted_unit(18_000, Fuel { lng, propane: 75_000 }, Rule::Right)
+    adjusted_unit(18_000, Fuel { lng, propane: 75_000 }, 0, Rule::Right)
 }
 
 #[test]
@@ -122,7 +123,7 @@ fn sharing_for_any_number() {
 
 #[test]
 fn interest_from_the_eleventh_late_day_counts_all() {
-    let late = |days: u32| interest(4_850, 59, 59 + days, Rule::Right);
+    let late = |days: u32| interest(4_850, 29, 59, 59 + days, Rule::Right);
     assert_eq!(late(10), 0);
     assert_eq!(late(11), 13);
 }
@@ -143,7 +144,7 @@ fn interest_is_held_and_posted_by_the_next_closing() {
 #[test]
 fn blunders_give_other_figures() {
     let cheap = Fuel { lng: 83_000, propane: 75_000 };
-    assert_eq!(adjusted_unit(18_000, cheap, Rule::CutFirst), 17_992);
-    assert_ne!(price(24, BASE, 20, Rule::RawBand), 4_600);
-    assert_ne!(interest(4_850, 59, 70, Rule::LateFromEleventh), 13);
+    assert_eq!(adjusted_unit(18_000, cheap, 0, Rule::CutFirst), 17_992);
+    assert_ne!(price(23, 24, BASE, 20, Rule::RawBand), 4_600);
+    assert_ne!(interest(4_850, 29, 59, 70, Rule::LateFromEleventh), 13);
 }

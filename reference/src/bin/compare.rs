@@ -8,7 +8,7 @@ use std::sync::Mutex;
 use std::thread;
 use std::time::Instant;
 
-use reference::check::{Checker, Counts, Failure, Itself, Other, EDGES, REACHABLE};
+use reference::check::{Checker, Counts, Failure, Itself, Other, ACROSS, EDGES, FULL, REACHABLE};
 use reference::closed::Closed;
 use reference::fast::Fast;
 use reference::frames;
@@ -28,9 +28,13 @@ const USAGE: &str = "usage: compare [--lives N] [--seed S] [--jobs J] [--table F
   --least M          fails if a number was reached fewer times (lives / 100)
   --wrong-rule NAME  gives the reference a blunder: raw-band (if not named),
                      cut-first, meter-closes, late-from-eleventh, todays-fuel,
-                     unmoved-late or listed-kept
+                     unmoved-late, listed-kept, cut-first-at-ten, rate-late,
+                     rate-early, first-day-rate, todays-rate, settling-body or
+                     due-body
   the other side: two programs, the linked library, the fast build of the
-  reference, or the reference itself";
+  reference, or the reference itself
+  A run of 100,000 lives or more also fails if fewer than a third of them are
+  across day 7,213 with an estimate standing.";
 
 #[derive(Clone)]
 enum Side {
@@ -82,7 +86,7 @@ fn options() -> Result<Options, String> {
         Some(text) => text.parse().map_err(|_| format!("{name} needs a number")),
         None => Ok(usual),
     };
-    let lives = number("--lives", 100_000)?;
+    let lives = number("--lives", FULL)?;
     Ok(Options {
         lives,
         seed: number("--seed", 1)?,
@@ -250,7 +254,7 @@ fn rows(total: &Total) -> Vec<(&'static str, String, u64)> {
 
 fn print_table(rows: &[(&str, String, u64)]) {
     for (kind, name, count) in rows {
-        println!("{kind:<8} {name:<36} {count:>12}");
+        println!("{kind:<8} {name:<50} {count:>10}");
     }
 }
 
@@ -316,7 +320,11 @@ fn compare(options: &Options) -> Result<bool, std::io::Error> {
     if !seldom.is_empty() {
         println!("reached fewer than {} times: {seldom:?}", options.least);
     }
-    Ok(seldom.is_empty())
+    let too_few_cross = total.counts.too_few_cross(total.lives);
+    if too_few_cross {
+        println!("fewer than a third: {ACROSS}");
+    }
+    Ok(seldom.is_empty() && !too_few_cross)
 }
 
 fn main() -> ExitCode {

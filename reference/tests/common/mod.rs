@@ -8,6 +8,10 @@ use reference::tariff::Fuel;
 
 /// Average 83,090, k 0.
 pub const BASE: Fuel = Fuel { lng: 83_130, propane: 75_000 };
+/// Average 82,970, k 1 below the base.
+pub const CHEAP: Fuel = Fuel { lng: 83_000, propane: 75_000 };
+/// Average 84,850, k 17 above the base.
+pub const DEAR: Fuel = Fuel { lng: 85_000, propane: 75_000 };
 
 pub fn opening(day: u32, reading: u32, digits: u32) -> Call {
     Call { day, what: What::Opening { reading, digits } }
@@ -23,6 +27,10 @@ pub fn reading_at(day: u32, reading: u32, fuel: Fuel) -> Call {
 
 pub fn missed(day: u32) -> Call {
     Call { day, what: What::Missed { fuel: BASE } }
+}
+
+pub fn missed_at(day: u32, fuel: Fuel) -> Call {
+    Call { day, what: What::Missed { fuel } }
 }
 
 pub fn absent(day: u32) -> Call {
