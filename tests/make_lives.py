@@ -25,6 +25,8 @@ LIVES = pathlib.Path(__file__).resolve().parent / "lives"
 LEVEL = (83_130, 75_000)  # 78,341.712 + 4,747.5 = 83,089.2, so 83,090: k 0
 LOWER = (83_000, 75_000)  # 78,219.2 + 4,747.5 = 82,966.7, so 82,970: 120 below, k 1
 HIGHER = (85_000, 75_000)  # 80,104 + 4,747.5 = 84,851.5, so 84,850: 1,760 above, k 17
+FREE = (0, 0)  # 83,090 below, k 830
+DEAR = (300_000, 300_000)  # 282,720 + 18,990 = 301,710: 218,620 above, k 2,186
 
 
 def frame(kind, day, *fields):
@@ -154,7 +156,7 @@ def life(name, shows):
 #                         17 m³ 950 + 3,315 = 4,265      80 m³ 1,250 + 14,400 = 15,650
 #                                                        81 m³ 2,050 + 13,770 = 15,820
 # 0 m³ in one day at k 0: 95,000 / 30 = 3,166 sen, 31 yen.
-# Bodies: 4,850 − 359 = 4,491; 6,650 − 492 = 6,158; 31 − 2 = 29.
+# Bodies of items before day 7,213: 4,850 − 359 = 4,491; 6,650 − 492 = 6,158; 31 − 2 = 29.
 # Interest below is written body × late × 274 = yen, the division by 1,000,000 left out.
 
 # --- Document 01's figures --------------------------------------------------
@@ -225,14 +227,13 @@ def _(a):
 
 @life("fuel_edges", "fuel 0 and 300,000, the average rounded half up to 10, and the change cut to 100")
 def _(a):
-    # 0 and 0: 83,090 below, k 830; 19,500 − 7,350.48 = 12,149.52, cut to 12,149; × 20 + 95,000 = 337,980 sen.
-    # 300,000 twice: 282,720 + 18,990 = 301,710; 218,620 above, k 2,186; 19,500 + 19,359.216, cut to 38,859;
-    # × 20 + 95,000 = 872,180 sen.
+    # 0 and 0: 19,500 − 7,350.48 = 12,149.52, cut to 12,149; × 20 + 95,000 = 337,980 sen.
+    # 300,000 twice: 19,500 + 19,359.216, cut to 38,859; × 20 + 95,000 = 872,180 sen.
     # 83,190 and 75,620: 78,398.256 + 4,786.746 = 83,185.002, so 83,190: 100 above, k 1; 18,008 × 80 + 125,000 = 1,565,640 sen.
     # 83,190 and 75,610: 83,184.369, so 83,180: 90 above, k 0: 15,650 yen.
     a(opening(0, 0, 4))
-    a(read(29, 20, (0, 0)), volumes=[20], net=3_379, unpaid=3_379)
-    a(read(59, 40, (300_000, 300_000)), volumes=[20], net=8_721, unpaid=12_100)
+    a(read(29, 20, FREE), volumes=[20], net=3_379, unpaid=3_379)
+    a(read(59, 40, DEAR), volumes=[20], net=8_721, unpaid=12_100)
     a(read(89, 120, (83_190, 75_620)), volumes=[80], net=15_656, unpaid=27_756)
     a(read(119, 200, (83_190, 75_610)), volumes=[80], net=15_650, unpaid=43_406)
     a.open(price_item(29, 3_379), price_item(59, 8_721), price_item(89, 15_656), price_item(119, 15_650))
@@ -915,7 +916,7 @@ def _(a):
     for wrong in (300_010, 300_005, 300_001, 299_995, 5, 2**32 - 1):
         for fuel in ((wrong, 75_000), (83_130, wrong)):
             a.no(6, read(29, 20, fuel), missed(29, fuel), absent(29, fuel), stop(29, 20, fuel), cancellation(29, 20, fuel))
-    a(read(29, 20, (300_000, 300_000)), volumes=[20], net=8_721, unpaid=8_721)  # see fuel_edges
+    a(read(29, 20, DEAR), volumes=[20], net=8_721, unpaid=8_721)  # see fuel_edges
     a.open(price_item(29, 8_721))
 
 
@@ -1688,6 +1689,276 @@ def _(a):
 def _(a):
     a.close(59, 59)
     a.no(14, "")
+
+
+# --- Consumption tax at ten per cent ------------------------------------------------
+# Day 7,213 is 1 October 2019. Change of the unit before it and from it on, and the units where they count below:
+#   LOWER    8.856             9.02         18,000 −: 17,991 and 17,990
+#   HIGHER   150.552           153.34       18,000 +: 18,150 and 18,153
+#   FREE     7,350.48          7,486.6      17,000 −: 9,649 and 9,513
+#   DEAR     19,359.216        19,717.72    19,500 +: 38,859 and 39,217; 18,000 +: 37,359 and 37,717; 17,000 +: 36,359 and 36,717
+# Prices over 25 to 35 days at DEAR, in sen, before it and from it on:
+#   10 m³ 95,000 + 388,590 = 483,590          95,000 + 392,170 = 487,170
+#   11 m³ 95,000 + 427,449 = 522,449          95,000 + 431,387 = 526,387
+#   14 m³ 95,000 + 544,026 = 639,026          95,000 + 549,038 = 644,038
+#   15 m³ 95,000 + 582,885 = 677,885          95,000 + 588,255 = 683,255
+#   16 m³ 95,000 + 621,744 = 716,744          95,000 + 627,472 = 722,472
+#   17 m³ 95,000 + 660,603 = 755,603          95,000 + 666,689 = 761,689
+#   30 m³ 125,000 + 1,120,770 = 1,245,770     125,000 + 1,131,510 = 1,256,510
+#   80 m³ 125,000 + 2,988,720 = 3,113,720     125,000 + 3,017,360 = 3,142,360
+# Bodies before it and from it on: 4,850 − 359 = 4,491 and 4,850 − 440 = 4,410; 15,650 − 1,159 = 14,491 and 15,650 − 1,422 = 14,228.
+
+
+@life("tax_units_lower_7212", "77 m³ at fuel average 82,970, closing on day 7,212: unit 17,991, 15,103 (by 9.02 it would be 17,990, 15,102)")
+def _(a):
+    # 125,000 + 17,991 × 77 = 1,510,307 sen.
+    a(opening(7_183, 0, 4))
+    a(read(7_212, 77, LOWER), volumes=[77], net=15_103, unpaid=15_103)
+    a.open(price_item(7_212, 15_103))
+
+
+@life("tax_units_lower_7213", "the same on day 7,213: unit 17,990, 15,102 (by 8.856, or with 9.02 cut before it is taken off, 17,991, 15,103)")
+def _(a):
+    # 125,000 + 17,990 × 77 = 1,510,230 sen. 80 m³ would not show it: 1,564,280 and 1,564,200 sen, 15,642 yen both.
+    a(opening(7_184, 0, 4))
+    a(read(7_213, 77, LOWER), volumes=[77], net=15_102, unpaid=15_102)
+    a(read(7_243, 157, LOWER), volumes=[80], net=15_642, unpaid=30_744)
+    a.open(price_item(7_213, 15_102), price_item(7_243, 15_642))
+
+
+@life("tax_units_higher_7212", "80 m³ at fuel average 84,850, closing on day 7,212: unit 18,150, 15,770 (by 9.02 it would be 18,153, 15,772)")
+def _(a):
+    # 125,000 + 18,150 × 80 = 1,577,000 sen.
+    a(opening(7_183, 0, 4))
+    a(read(7_212, 80, HIGHER), volumes=[80], net=15_770, unpaid=15_770)
+    a.open(price_item(7_212, 15_770))
+
+
+@life("tax_units_higher_7213", "the same on day 7,213: unit 18,153, 15,772 (by 8.856 it would be 18,150, 15,770)")
+def _(a):
+    # 125,000 + 18,153 × 80 = 1,577,240 sen.
+    a(opening(7_184, 0, 4))
+    a(read(7_213, 80, HIGHER), volumes=[80], net=15_772, unpaid=15_772)
+    a.open(price_item(7_213, 15_772))
+
+
+@life("tax_closings", "02, 03, 06 and 08 from day 7,213 on, 77 m³ each: 15,102 each (by 8.856 it would be 15,103); 04 bills no unit")
+def _(a):
+    # As tax_units_lower_7213. The estimate of 77 m³ stands.
+    a(opening(7_184, 0, 4))
+    a(read(7_213, 77, LOWER), volumes=[77], net=15_102, unpaid=15_102)
+    a(missed(7_243, LOWER), estimated=77, net=15_102, unpaid=30_204)
+    a(absent(7_273, LOWER), net=950, unpaid=31_154)
+    a(stop(7_303, 231, LOWER), volumes=[77, 0, 77], net=15_102, unpaid=46_256)
+    a(resumption(7_304, 500, 4), unpaid=46_256)
+    a(cancellation(7_333, 577, LOWER), volumes=[77], net=15_102, unpaid=61_358)
+    a.open(*(price_item(day, 950 if day == 7_273 else 15_102) for day in (7_213, 7_243, 7_273, 7_303, 7_333)))
+
+
+@life("tax_body_15650_7212", "15,650 of day 7,212 settled 11 days late: 43 (by 10/110 it would be 42)")
+def _(a):
+    # Due on day 7,242. 14,491 × 11 × 274 = 43.7. 60 days of 0 m³ 1,900.
+    a(opening(7_183, 0, 4))
+    a(read(7_212, 80), volumes=[80], net=15_650, unpaid=15_650)
+    a(payment(7_253, 15_650))
+    a(read(7_272, 80), volumes=[0], net=1_900, interest=43, unpaid=1_943)
+    a.open(interest_item(7_272, 43), price_item(7_272, 1_900))
+
+
+@life("tax_body_15650_7213", "15,650 of day 7,213, at k 0 what it was before, settled 11 days late: 42 (by 8/108 it would be 43)")
+def _(a):
+    # Due on day 7,243. 14,228 × 11 × 274 = 42.9.
+    a(opening(7_184, 0, 4))
+    a(read(7_213, 80), volumes=[80], net=15_650, unpaid=15_650)
+    a(payment(7_254, 15_650))
+    a(read(7_273, 80), volumes=[0], net=1_900, interest=42, unpaid=1_942)
+    a.open(interest_item(7_273, 42), price_item(7_273, 1_900))
+
+
+@life("tax_body_4850_7212", "4,850 of day 7,212 settled 14 days late: 17 (by 10/110 it would be 16)")
+def _(a):
+    # 4,491 × 14 × 274 = 17.2.
+    a(opening(7_183, 0, 4))
+    a(read(7_212, 20), volumes=[20], net=4_850, unpaid=4_850)
+    a(payment(7_256, 4_850))
+    a(read(7_272, 20), volumes=[0], net=1_900, interest=17, unpaid=1_917)
+    a.open(interest_item(7_272, 17), price_item(7_272, 1_900))
+
+
+@life("tax_body_4850_7213", "4,850 of day 7,213 settled 14 days late: 16 (by 8/108 it would be 17)")
+def _(a):
+    # 4,410 × 14 × 274 = 16.9.
+    a(opening(7_184, 0, 4))
+    a(read(7_213, 20), volumes=[20], net=4_850, unpaid=4_850)
+    a(payment(7_257, 4_850))
+    a(read(7_273, 20), volumes=[0], net=1_900, interest=16, unpaid=1_916)
+    a.open(interest_item(7_273, 16), price_item(7_273, 1_900))
+
+
+@life("tax_settled_later", "15,650 of day 7,152, due on day 7,182 and settled on day 7,213: 123 (by the settling day's rate it would be 120)")
+def _(a):
+    # 31 days late: 14,491 × 31 × 274 = 123.09; 14,228 × 31 × 274 = 120.9. 90 days of 0 m³ 2,850.
+    a(opening(7_123, 0, 4))
+    a(read(7_152, 80), volumes=[80], net=15_650, unpaid=15_650)
+    a(payment(7_213, 15_650))
+    a(read(7_242, 80), volumes=[0], net=2_850, interest=123, unpaid=2_973)
+    a.open(interest_item(7_242, 123), price_item(7_242, 2_850))
+
+
+@life("tax_closed_day", "4,850 of day 7,182, due on day 7,213 in place of 7,212, settled 14 days late: 17 (by the due day's rate it would be 16)")
+def _(a):
+    # From the day before it moved it would be 15 days, 4,491 × 15 × 274 = 18.5.
+    a.close(7_212)
+    a(opening(7_153, 0, 4))
+    a(read(7_182, 20), volumes=[20], net=4_850, unpaid=4_850)
+    a(payment(7_227, 4_850))
+    a(read(7_242, 20), volumes=[0], net=1_900, interest=17, unpaid=1_917)
+    a.open(interest_item(7_242, 17), price_item(7_242, 1_900))
+
+
+@life("tax_both_rates", "items of days 7,212 and 7,242 settled by one payment: 230 and 109, posted as 339 (both by one rate 341 or 335)")
+def _(a):
+    # 58 days late, 14,491 × 58 × 274 = 230.3; by 10/110 226.1. 28 days late, 14,228 × 28 × 274 = 109.2; by 8/108 111.2.
+    a(opening(7_183, 0, 4))
+    a(read(7_212, 80), volumes=[80], net=15_650, unpaid=15_650)
+    a(cancellation(7_242, 160), volumes=[80], net=15_650, unpaid=31_300)
+    a(payment(7_300, 31_300), interest=339, unpaid=339)
+    a.open(interest_item(7_300, 339))
+
+
+@life("tax_across", "30 days, half of them before day 7,213: 80 m³ 31,423, wholly at the new rate (by the first day's 31,137, by half and half 31,280)")
+def _(a):
+    # Days 7,198 to 7,227.
+    a(opening(7_168, 0, 4))
+    a(read(7_197, 80, DEAR), volumes=[80], net=31_137, unpaid=31_137)
+    a(read(7_227, 160, DEAR), volumes=[80], net=31_423, unpaid=62_560)
+    a.open(price_item(7_197, 31_137), price_item(7_227, 31_423))
+
+
+@life("tax_across_7212", "80 m³ in a period that closes on day 7,212 and in the next: 31,137 and 31,423 (a day early it would be 31,423 twice)")
+def _(a):
+    a(opening(7_183, 0, 4))
+    a(read(7_212, 80, DEAR), volumes=[80], net=31_137, unpaid=31_137)
+    a(read(7_242, 160, DEAR), volumes=[80], net=31_423, unpaid=62_560)
+    a.open(price_item(7_212, 31_137), price_item(7_242, 31_423))
+
+
+def missed_on_7212(a):
+    """30 m³ at 8.856 on day 7,182, 12,457, then a miss of 30 m³ on day 7,212, the same; all paid in time, dial 30."""
+    a(opening(7_153, 0, 4))
+    a(read(7_182, 30, DEAR), volumes=[30], net=12_457, unpaid=12_457)
+    a(missed(7_212, DEAR), estimated=30, net=12_457, unpaid=24_914)
+    a(payment(7_212, 24_914))
+
+
+@life("tax_revision", "a miss of day 7,212 revised on day 7,242: net 765 (all at the new rate 815, all at the old 711), late 4 by 10/110 (by 8/108 5)")
+def _(a):
+    # Pool 29: 29 / 2 up = 15 for this period, by 9.02 6,832 (by 8.856 6,778); 14 for the missed one, by 8.856 6,390 (by 9.02 6,440).
+    # 6,832 + 6,390 − 12,457 = 765. With the missed one taken off at the new rate too, 12,565, it would be 707.
+    # 765 due on day 7,272, 26 days late; 765 − 69 = 696; 696 × 26 × 274 = 4.96. By 8/108, 765 − 56 = 709; 709 × 26 × 274 = 5.05.
+    missed_on_7212(a)
+    a(read(7_242, 59, DEAR), volumes=[14, 15], net=765, unpaid=765)
+    a(payment(7_298, 765))
+    a(read(7_302, 59), volumes=[0], net=1_900, interest=4, unpaid=1_904)
+    a.open(interest_item(7_302, 4), price_item(7_302, 1_900))
+
+
+@life("tax_revision_below", "the same by 06 with pool 21: 10 and 11, net −2,359 (all at the new rate −2,323, all at the old −2,398)")
+def _(a):
+    # 11 m³ by 9.02 5,263 (by 8.856 5,224); 10 m³ by 8.856 4,835 (by 9.02 4,871). 5,263 + 4,835 − 12,457 = −2,359.
+    missed_on_7212(a)
+    a(stop(7_242, 51, DEAR), volumes=[10, 11], net=-2_359, credit=2_359)
+
+
+@life("tax_revision_stands", "the same by 08 with pool 60: the estimate stands, and this period's 30 m³ are 12,565 (with the estimate at the new rate 12,673)")
+def _(a):
+    # The estimate is 12,457 as it was billed; by 9.02 it would be 12,565, 108 more.
+    missed_on_7212(a)
+    a(cancellation(7_242, 90, DEAR), volumes=[30, 30], net=12_565, unpaid=12_565)
+    a.open(price_item(7_242, 12_565))
+
+
+@life("tax_estimates", "misses of days 7,212 and 7,213 revised by one reading: net −2,447 (by one rate for both −2,390 or −2,508)")
+def _(a):
+    # The miss of day 7,213: 1 day, 30 m³, 900 a month; 205,000 / 30 = 6,833; + 36,717 × 30 = 1,101,510; 1,108,343 sen.
+    # Pool 50: 50 / 3 up = 17 for this period, 7,616. 33 / 2 up = 17 for the day: 6,833 + 36,717 × 17 = 631,022 sen, 6,310;
+    # by 8.856, 6,833 + 36,359 × 17 = 624,936 sen, 6,249: 61 less. 16 for the first, 7,167; by 9.02, 95,000 + 39,217 × 16 = 722,472 sen,
+    # 7,224: 57 more. 7,616 + 6,310 + 7,167 − 12,457 − 11,083 = −2,447.
+    a(opening(7_153, 0, 4))
+    a(read(7_182, 30, DEAR), volumes=[30], net=12_457, unpaid=12_457)
+    a(missed(7_212, DEAR), estimated=30, net=12_457, unpaid=24_914)
+    a(missed(7_213, DEAR), estimated=30, net=11_083, unpaid=35_997)
+    a(read(7_243, 80, DEAR), volumes=[16, 17, 17], net=-2_447, unpaid=33_550)
+    a.open(price_item(7_182, 10_010), price_item(7_212, 12_457), price_item(7_213, 11_083))
+
+
+@life("tax_six_estimates", "six misses, three before day 7,213, revised at once: net −29,352 (each of 14 m³ at the wrong rate 50 more or less)")
+def _(a):
+    # Periods of 31, 33, 28, 28, 35, 28 and 27 days. Pool 100 as in share_six: five of 14, then 15 and 15.
+    # 6,832 + 6,832 + 2 × 6,440 + 3 × 6,390 − 3 × 12,565 − 3 × 12,457 = 45,714 − 75,066 = −29,352, off 87,523 open.
+    # It settles the items of days 7,120 and 7,151, due on days 7,150 and 7,181, 180 and 149 days late; 12,457 − 922 = 11,535;
+    # 11,535 × 180 × 274 = 568.9 and 11,535 × 149 × 274 = 470.9, so 1,038 held (by the settling day's rate, 11,325: 558 and 462).
+    # 29,352 − 24,914 = 4,438 off the item of day 7,184.
+    a(opening(7_091, 0, 4))
+    a(read(7_120, 30, DEAR), volumes=[30], net=12_457, unpaid=12_457)
+    a(missed(7_151, DEAR), estimated=30, net=12_457, unpaid=24_914)
+    a(missed(7_184, DEAR), estimated=30, net=12_457, unpaid=37_371)
+    a(missed(7_212, DEAR), estimated=30, net=12_457, unpaid=49_828)
+    a(missed(7_240, DEAR), estimated=30, net=12_565, unpaid=62_393)
+    a(missed(7_275, DEAR), estimated=30, net=12_565, unpaid=74_958)
+    a(missed(7_303, DEAR), estimated=30, net=12_565, unpaid=87_523)
+    a(read(7_330, 130, DEAR), volumes=[14, 14, 14, 14, 14, 15, 15], net=-29_352, unpaid=58_171)
+    a(read(7_360, 130), volumes=[0], net=950, interest=1_038, unpaid=60_159)
+    a.open(
+        price_item(7_184, 8_019),
+        price_item(7_212, 12_457),
+        *(price_item(day, 12_565) for day in (7_240, 7_275, 7_303)),
+        interest_item(7_360, 1_038),
+        price_item(7_360, 950),
+    )
+
+
+@life("tax_extremes", "fuel 0 and 300,000 on both sides of day 7,213: units 38,859, 9,649, 9,513, 39,217 (cut before it is taken off, 9,650 and 9,514)")
+def _(a):
+    # 100 m³: 205,000 + 964,900 = 1,169,900 and 205,000 + 951,300 = 1,156,300 sen.
+    # 20 m³: 95,000 + 777,180 = 872,180 and 95,000 + 784,340 = 879,340 sen.
+    a(opening(7_153, 0, 4))
+    a(read(7_182, 20, DEAR), volumes=[20], net=8_721, unpaid=8_721)
+    a(read(7_212, 120, FREE), volumes=[100], net=11_699, unpaid=20_420)
+    a(read(7_242, 220, FREE), volumes=[100], net=11_563, unpaid=31_983)
+    a(read(7_272, 240, DEAR), volumes=[20], net=8_793, unpaid=40_776)
+    a.open(price_item(7_182, 8_721), price_item(7_212, 11_699), price_item(7_242, 11_563), price_item(7_272, 8_793))
+
+
+@life("tax_dearest", "the dearest price: 99,999 m³ in 36,095 days at fuel 300,000, 39,183,124 (by 8.856 it would be 38,825,128)")
+def _(a):
+    # 99,999 × 30 / 36,095 = 83, third band; 205,000 × 36,095 / 30 = 246,649,166; + 36,717 × 99,999 = 3,918,312,449 sen.
+    a(opening(0, 0, 5))
+    a(change(1, 50_000, 0, 5))
+    a(read(36_094, 49_999, DEAR), volumes=[99_999], net=39_183_124, unpaid=39_183_124)
+    a.open(price_item(36_094, 39_183_124))
+
+
+@life("tax_dearest_unit", "the most at the dearest unit, 39,217: 25,266 m³ in 36,095 days, 11,051,575 (by 8.856 10,961,123, in the second band 11,033,535)")
+def _(a):
+    # 25,266 × 30 = 757,980, and 21 × 36,095 = 757,995: 20 a month, first band;
+    # 95,000 × 36,095 / 30 = 114,300,833; + 39,217 × 25,266 = 1,105,157,555 sen.
+    a(opening(0, 0, 5))
+    a(read(36_094, 25_266, DEAR), volumes=[25_266], net=11_051_575, unpaid=11_051_575)
+    a.open(price_item(36_094, 11_051_575))
+
+
+@life("tax_dearest_late", "99,999 m³ of day 7,213 settled on day 36,094: 267,407,530 (by 8/108 272,359,521; with the body × 100 / 110, cut, 267,407,522)")
+def _(a):
+    # 7,214 days, 415 a month, third band; 205,000 × 7,214 / 30 = 49,295,666; + 36,717 × 99,999 = 3,720,958,949 sen.
+    # Due on day 7,243, 28,851 days late; 37,209,589 − 3,382,689 = 33,826,900; 33,826,900 × 28,851 × 274 = 267,407,530.4.
+    # 28,881 days of 0 m³: 95,000 × 28,881 / 30 = 91,456,500 sen.
+    a(opening(0, 0, 5))
+    a(change(1, 50_000, 0, 5))
+    a(read(7_213, 49_999, DEAR), volumes=[99_999], net=37_209_589, unpaid=37_209_589)
+    a(payment(36_094, 37_209_589))
+    a(read(36_094, 49_999), volumes=[0], net=914_565, interest=267_407_530, unpaid=268_322_095)
+    a.open(interest_item(36_094, 267_407_530), price_item(36_094, 914_565))
 
 
 # --- Writing ----------------------------------------------------------------------
