@@ -42,7 +42,7 @@ pub record Matched (a : Account) (b : Book) : Type 0 where
   pub load_most : load (on_ledger b.money) ≤ most_load
 
 -- A status by its test.
-new_is : (status : Status) → is_new status ≡ true → status ≡ New
+pub new_is : (status : Status) → is_new status ≡ true → status ≡ New
 new_is New e = refl
 new_is (Supplied start) e = cc
 new_is (Stopped stop) e = cc
@@ -54,7 +54,7 @@ supplied_is (Supplied start) e = refl
 supplied_is (Stopped stop) e = cc
 supplied_is Cancelled e = cc
 
-stopped_is : (status : Status) → is_stopped status ≡ true → status ≡ Stopped (stop_of status)
+pub stopped_is : (status : Status) → is_stopped status ≡ true → status ≡ Stopped (stop_of status)
 stopped_is New e = cc
 stopped_is (Supplied start) e = cc
 stopped_is (Stopped stop) e = refl

@@ -3,10 +3,14 @@
 #![tactic(auto)]
 
 ghost use Rattle.std.specs.Prelude.{◌≡◌, ◌+◌, ◌≤◌};
+ghost use Rattle.duedays.specs.Limits.{last_call_day, term};
+ghost use Rattle.tariff.specs.Limits.{most_volume};
+ghost use Rattle.ledger.specs.Limits.{most_price};
 ghost use Rattle.figures.specs.Starred.{Starred};
 
 use account::Account;
 use calendar::{Date, Day};
+use duedays::limits::TERM;
 use intake::Status;
 use ledger::{Item, Kind};
 use meter::StandingPeriods;
@@ -110,10 +114,10 @@ fn interest_by_tax(rt: &impl Print) -> io::Result<()> {
 
 // The interest of a price item that is settled so many days late.
 fn settled_late(amount: u64, obligation: u16, late: u16) -> u64
-    requires amount { amount ≤ 1000000000 }
-    requires days { obligation + 30 + late ≤ 36094 }
+    requires amount { amount ≤ most_price }
+    requires days { obligation + term + late ≤ last_call_day }
 {
-    let due = obligation + 30;
+    let due = obligation + TERM;
     let item = Item {
         amount,
         unpaid: amount,
@@ -189,7 +193,7 @@ fn half_span(rt: &impl Print, volume: u32) -> io::Result<()> {
 
 // The last of the volumes that a reading after one miss of 30 m3 makes final.
 fn after_one_miss(rt: &impl Print, pool: u32) -> io::Result<()>
-    requires { pool ≤ 99999 }
+    requires { pool ≤ most_volume }
 {
     let mut volumes = [0u32; 7];
     let standing = StandingPeriods { periods: &[MISSED] };
