@@ -5,6 +5,7 @@
 ghost use Rattle.std.specs.Prelude.{◌≡◌, ◌+◌, ◌≤◌};
 ghost use Rattle.duedays.specs.Limits.{last_call_day, term};
 ghost use Rattle.tariff.specs.Limits.{most_volume};
+ghost use Rattle.meter.specs.Dial.{OnDial};
 ghost use Rattle.ledger.specs.Limits.{most_price};
 ghost use Rattle.figures.specs.Starred.{Starred};
 
@@ -45,6 +46,7 @@ fn main(rt: HostRuntime) -> io::Result<()> {
     interest_by_tax(&rt)?;
     revision_by_tax(&rt)?;
     closing_days(&rt)?;
+    advances(&rt)?;
     half_span(&rt, 5_000)?;
     half_span(&rt, 5_001)?;
     after_one_miss(&rt, 40)?;
@@ -180,6 +182,31 @@ fn closing(days: u16, fuel: Fuel, closing_day: u16) -> BillingPeriod
         closing_day,
         fuel,
     }
+}
+
+// Both dials at their edges: at rest, past 0, as far as they go, and, of five digits, to a number with the same last four.
+#[tactic(auto, unfolding(meter::specs::Dial::span))]
+fn advances(rt: &impl Print) -> io::Result<()> {
+    advance(rt, 4, 0, 0)?;
+    advance(rt, 4, 9_999, 9_999)?;
+    advance(rt, 4, 9_999, 0)?;
+    advance(rt, 4, 0, 9_999)?;
+    advance(rt, 4, 1, 0)?;
+    advance(rt, 5, 0, 0)?;
+    advance(rt, 5, 99_999, 99_999)?;
+    advance(rt, 5, 99_990, 15)?;
+    advance(rt, 5, 99_999, 0)?;
+    advance(rt, 5, 0, 99_999)?;
+    advance(rt, 5, 1, 0)?;
+    advance(rt, 5, 12_345, 2_345)?;
+    advance(rt, 5, 2_345, 12_345)
+}
+
+fn advance(rt: &impl Print, digits: u8, old: u32, new: u32) -> io::Result<()>
+    requires { OnDial digits old new }
+{
+    let turned = meter::dial_advance(digits, old, new);
+    println!(rt; "{digits} digits, from {old} to {new}: {turned}")
 }
 
 fn half_span(rt: &impl Print, volume: u32) -> io::Result<()> {

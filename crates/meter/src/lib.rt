@@ -152,17 +152,17 @@ pub struct Share {
     pub periods: u32,
 }
 
-// How far a dial turned from one reading to the next.
-#[tactic(auto, using(crate::proofs::Dial::span_most), unfolding(crate::specs::Dial::advance))]
+// How far a dial turned from one reading to the next, without a branch: the span of five digits, whole turns of either dial, is added, the
+// remainders by both spans are taken, and what the second has above the first counts at five digits only.
+#[tactic(auto, unfolding(crate::specs::Dial::span))]
 pub fn dial_advance(digits: u8, old: u32, new: u32) -> u32
     requires { OnDial digits old new }
     ensures { result ≡ advance digits old new }
 {
-    if old <= new {
-        new - old
-    } else {
-        new + dial_span(digits) - old
-    }
+    let turned = new + dial_span(5) - old;
+    let four = turned % dial_span(4);
+    let five = turned % dial_span(5);
+    four + (five - four) * u32::from(digits - 4)
 }
 
 // An advance above half the span is taken for a misreading.
