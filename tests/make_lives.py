@@ -255,6 +255,22 @@ def _(a):
     a.open(price_item(29, 5_750), price_item(59, 5_750))
 
 
+@life("turnovers", "dials past 0 at a change, a reading, one after a miss, a stop and a cancellation, and at rest at a change")
+def _(a):
+    # 17 m³: 950 + 3,315 = 4,265; 9 m³: 950 + 1,755 = 2,705.
+    a(opening(0, 9_990, 4))
+    a(change(10, 5, 99_995, 5))  # 15 m³
+    a(read(29, 5), volumes=[25], net=5_750, unpaid=5_750)  # and 10
+    a(change(40, 5, 9_999, 4), unpaid=5_750)  # 0
+    a(missed(59), estimated=25, net=5_750, unpaid=11_500)
+    a(read(89, 41), volumes=[25, 17], net=4_265, unpaid=15_765)  # 42
+    a(change(90, 41, 99_990, 5), unpaid=15_765)  # 0
+    a(stop(119, 10), volumes=[20], net=4_850, unpaid=20_615)
+    a(resumption(130, 9_998, 4), unpaid=20_615)
+    a(cancellation(159, 7), volumes=[9], net=2_705, unpaid=23_320)
+    a.open(price_item(29, 5_750), price_item(59, 5_750), price_item(89, 4_265), price_item(119, 4_850), price_item(159, 2_705))
+
+
 @life("interest_days", "4,850 settled 10 days late: 0; 11 days late: 13, posted by the next closing")
 def _(a):
     # 4,491 × 11 × 274 / 1,000,000 = 13.5
