@@ -1,13 +1,15 @@
 """Inputs of one kind of line: some lines that lead there, then the kind over and over."""
 
+import random
+
 PRICES = "000144ba000124f8"  # 83,130 and 75,000: k is 0
 MOST_PAID = 99_999_999
 NO_FRAME = 40
 VOLUME, BILL = 40, 8_450  # m³ of a household's month of 30 days, and its price
 
 
-def opening(day, reading=0):
-    return f"01{day:04x}{reading:08x}05"
+def opening(day, reading=0, digits=5):
+    return f"01{day:04x}{reading:08x}{digits:02x}"
 
 
 def reading(day, dial=0):
@@ -58,8 +60,8 @@ def items(count, first=0):
     return [opening(0)] + [reading(day, first) for day in range(count)]
 
 
-def in_credit():
-    return [opening(0)] + [payment(0, MOST_PAID)] * 9
+def in_credit(digits=5):
+    return [opening(0, digits=digits)] + [payment(0, MOST_PAID)] * 9
 
 
 def settle_and_post(day):
@@ -70,6 +72,15 @@ def settle_and_post(day):
 def shared(day):
     """Six misses and the reading that shares the pool among them."""
     return [missed(day + i) for i in range(6)] + [reading(day + 6)]
+
+
+def turning(count):
+    """Readings of a dial of four digits, which turns over in nearly every second one, in no order."""
+    chance, dial, lines = random.Random(1), 0, []
+    for day in range(1, count + 1):
+        dial = (dial + chance.randint(4_000, 5_000)) % 10_000
+        lines.append(reading(day, dial))
+    return lines
 
 
 def daily(lines_of, first, step, count):
@@ -105,6 +116,7 @@ KINDS = [
     ("meter change, 72 items open", 0, items(72), lambda n: [change(71)] * n),
     ("payment and reading in turn, 71 and 72 items open", 0, items(72), lambda n: daily(settle_and_post, 72, 1, n // 2)),
     ("six misses and a reading in turn, nothing open", 0, in_credit(), lambda n: daily(shared, 1, 7, n // 7)),
+    ("reading that credit settles, the dial turning over at random", 0, in_credit(4), lambda n: turning(n // 2)),  # as many as the credit pays
 ]
 
 
