@@ -184,22 +184,25 @@ fn closing(days: u16, fuel: Fuel, closing_day: u16) -> BillingPeriod
     }
 }
 
-// Both dials at their edges: at rest, past 0, as far as they go, and, of five digits, to a number with the same last four.
+// Both dials at their edges; and, of five digits, past 0 and between numbers with the same last four.
 #[tactic(auto, unfolding(meter::specs::Dial::span))]
 fn advances(rt: &impl Print) -> io::Result<()> {
-    advance(rt, 4, 0, 0)?;
-    advance(rt, 4, 9_999, 9_999)?;
-    advance(rt, 4, 9_999, 0)?;
-    advance(rt, 4, 0, 9_999)?;
-    advance(rt, 4, 1, 0)?;
-    advance(rt, 5, 0, 0)?;
-    advance(rt, 5, 99_999, 99_999)?;
+    edges(rt, 4, 9_999)?;
+    edges(rt, 5, 99_999)?;
     advance(rt, 5, 99_990, 15)?;
-    advance(rt, 5, 99_999, 0)?;
-    advance(rt, 5, 0, 99_999)?;
-    advance(rt, 5, 1, 0)?;
     advance(rt, 5, 12_345, 2_345)?;
     advance(rt, 5, 2_345, 12_345)
+}
+
+// At rest, past 0, and as far as a dial with this last number goes.
+fn edges(rt: &impl Print, digits: u8, last: u32) -> io::Result<()>
+    requires { OnDial digits 1 last }
+{
+    advance(rt, digits, 0, 0)?;
+    advance(rt, digits, last, last)?;
+    advance(rt, digits, last, 0)?;
+    advance(rt, digits, 0, last)?;
+    advance(rt, digits, 1, 0)
 }
 
 fn advance(rt: &impl Print, digits: u8, old: u32, new: u32) -> io::Result<()>
