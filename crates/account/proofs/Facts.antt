@@ -5,7 +5,7 @@ use Rattle.lists.specs.Every.{every, Every}
 use Rattle.common.proofs.Tests.{and_both, within_true, within_intro, either_zero, zero_either}
 use Rattle.lists.proofs.Every.{every_true, true_every, every_map}
 use Rattle.meter.specs.{declared.Estimate.Estimate, Dial.span, Dial.Digits}
-use Rattle.ledger.specs.Limits.{last_call_day, capacity, most_price, most_interest, most_credit}
+use Rattle.ledger.specs.Limits.{last_call_day, capacity, most_price, most_interest, most_gathered, most_credit}
 use Rattle.ledger.specs.{declared.Item.Item, declared.Ledger.Ledger, Interest.is_price, Posting.standing}
 use Rattle.intake.specs.declared.Status.TheVariants.{New, Supplied, Stopped, Cancelled}
 use Rattle.intake.specs.{declared.Status.Status, Limits.most_days, Limits.most_volume, Limits.most_misses}
@@ -68,11 +68,15 @@ pub record ItemFacts (latest : ℕ) (item : Item) : Type 0 where
   pub amount_most : item.amount ≤ most_interest
   pub obligation_most : item.obligation ≤ latest
   pub due_most : item.due ≤ last_due_day
+  pub share_most : item.share ≤ item.unpaid
+  pub gathered_most : item.gathered ≤ most_gathered
 
 item_facts : (latest : ℕ) (item : Item) → whole_item latest item ≡ true → ItemFacts latest item
 unfolding whole_item
 item_facts latest item e =
-    let four = and_both e in
+    let six = and_both e in
+    let five = and_both six.0 in
+    let four = and_both five.0 in
     let three = and_both four.0 in
     let two = and_both three.0 in
     let unpaid = within_true 1 item.amount item.unpaid two.0 in
@@ -84,6 +88,8 @@ item_facts latest item e =
       amount_most = either (is_price item.kind) bound;
       obligation_most = leb-true _ _ three.1;
       due_most = leb-true _ _ four.1;
+      share_most = leb-true _ _ five.1;
+      gathered_most = leb-true _ _ six.1;
     }
   where
     either : (b : Bool) → item.amount ≤ cond b most_price most_interest → item.amount ≤ most_interest
@@ -94,7 +100,8 @@ item_whole : (latest : ℕ) (item : Item) → ItemFacts latest item → whole_it
 unfolding whole_item
 item_whole latest item w =
     let unpaid = within_intro 1 item.amount item.unpaid w.unpaid_least w.unpaid_most in
-    rw (unpaid, amount (is_price item.kind) refl, le-leb _ _ w.obligation_most, le-leb _ _ w.due_most)
+    let days = le-leb _ _ w.obligation_most in
+    rw (unpaid, amount (is_price item.kind) refl, days, le-leb _ _ w.due_most, le-leb _ _ w.share_most, le-leb _ _ w.gathered_most)
   where
     amount : (b : Bool) → is_price item.kind ≡ b → leb item.amount (cond (is_price item.kind) most_price most_interest) ≡ true
     amount true e = rw e (le-leb _ _ (w.price_most e))

@@ -52,16 +52,20 @@ estimates_equal one other e =
 
 items_equal : (one other : Item) → same_item one other ≡ true → one ≡ other
 items_equal one other e =
-    let five = and_both e in
-    let four = and_both five.0 in
-    let three = and_both four.0 in
-    let two = and_both three.0 in
+    let due = and_both e in
+    let obligation = and_both due.0 in
+    let gathered = and_both obligation.0 in
+    let share = and_both gathered.0 in
+    let unpaid = and_both share.0 in
+    let amount = and_both unpaid.0 in
     λ i. record {
-      kind = kinds_equal one.kind other.kind two.0 i;
-      amount = eqb-true one.amount other.amount two.1 i;
-      unpaid = eqb-true one.unpaid other.unpaid three.1 i;
-      obligation = eqb-true one.obligation other.obligation four.1 i;
-      due = eqb-true one.due other.due five.1 i;
+      kind = kinds_equal one.kind other.kind amount.0 i;
+      amount = eqb-true one.amount other.amount amount.1 i;
+      unpaid = eqb-true one.unpaid other.unpaid unpaid.1 i;
+      share = eqb-true one.share other.share share.1 i;
+      gathered = eqb-true one.gathered other.gathered gathered.1 i;
+      obligation = eqb-true one.obligation other.obligation obligation.1 i;
+      due = eqb-true one.due other.due due.1 i;
     }
 
 made_estimates_lem : (estimates : Estimates) → made_estimates estimates ≡ true → estimates ≡ new_account.estimates

@@ -13,7 +13,14 @@ use Rattle.account.proofs.Facts.{ItemFacts, Facts, StatusFacts, estimates_bounde
 use Rattle.account.proofs.Made.{new_as, made_facts}
 
 item_bounds : (latest : ℕ) (item : Item) → ItemFacts latest item → ItemBounds item
-item_bounds latest item w = search le_trans
+item_bounds latest item w =
+    record {
+      unpaid_least = w.unpaid_least;
+      unpaid_most = le_trans w.unpaid_most w.amount_most;
+      share_most = w.share_most;
+      gathered_most = w.gathered_most;
+      price_most = λ price. omega (arith, w.share_most, w.unpaid_most, w.price_most price);
+    }
 
 -- What holds of a whole account by its status, and of a new one by what it was made with.
 record Kept (a : Account) : Type 0 where

@@ -5,7 +5,7 @@ use Rattle.lists.specs.Every.{every, same}
 use Rattle.tariff.specs.declared.BillingPeriod.{BillingPeriod}
 use Rattle.meter.specs.{declared.Estimate.Estimate, declared.Estimates.Estimates}
 use Rattle.ledger.specs.{declared.Item.Item, declared.Ledger.Ledger, Interest.is_price, Posting.standing}
-use Rattle.ledger.specs.Limits.{most_price, most_interest}
+use Rattle.ledger.specs.Limits.{most_price, most_interest, most_gathered}
 use Rattle.intake.specs.declared.Status.TheVariants.{New, Supplied, Stopped, Cancelled}
 use Rattle.intake.specs.Limits.{most_days, most_charge, day_allowed, digits_allowed, on_dial, fuel_allowed, misses_allowed, volume_allowed}
 use Rattle.intake.specs.declared.Status.{Status}
@@ -36,6 +36,8 @@ same_item one other =
     agree (is_price one.kind) (is_price other.kind) &&
     eqb one.amount other.amount &&
     eqb one.unpaid other.unpaid &&
+    eqb one.share other.share &&
+    eqb one.gathered other.gathered &&
     eqb one.obligation other.obligation &&
     eqb one.due other.due
 
@@ -73,13 +75,15 @@ whole_estimate latest estimate =
     leb estimate.charged most_charge
 
 -- An item: 1 to its amount unpaid, price items at most 10^9, interest items at most 10^12, no obligation day past the latest day,
--- no due day past 36,524.
+-- no due day past 36,524, no more of its body unpaid than is unpaid of it, a gathered sum of at most 10^14.
 unfoldable pub whole_item : ℕ → Item → Bool
 whole_item latest item =
     within 1 item.amount item.unpaid &&
     leb item.amount (cond (is_price item.kind) most_price most_interest) &&
     leb item.obligation latest &&
-    leb item.due last_due_day
+    leb item.due last_due_day &&
+    leb item.share item.unpaid &&
+    leb item.gathered most_gathered
 
 -- At most 72 items, interest held at most 10^12, credit as number 13 allows, and 0 while an item is open.
 unfoldable pub whole_ledger : ℕ → Ledger → Bool

@@ -12,7 +12,7 @@ use intake::Status;
 use intake::limits::{
     MOST_CHARGE, MOST_DAYS, MOST_MISSES, MOST_VOLUME, digits_allowed, fuel_allowed, on_dial,
 };
-use ledger::limits::{CAPACITY, MOST_CREDIT, MOST_INTEREST, MOST_PRICE};
+use ledger::limits::{CAPACITY, MOST_CREDIT, MOST_GATHERED, MOST_INTEREST, MOST_PRICE};
 use ledger::{Item, Kind, Ledger};
 use meter::Estimate;
 
@@ -123,6 +123,8 @@ fn whole_item(latest: u16, item: Item) -> bool
         & (item.amount <= amount_limit(item.kind))
         & (item.obligation <= latest)
         & (item.due <= LAST_DUE_DAY)
+        & (item.share <= item.unpaid)
+        & (item.gathered <= MOST_GATHERED)
 }
 
 // The largest amount of an item.

@@ -1,169 +1,256 @@
--- The book's settling by prefix sums and the account's queue agree. Assumes nothing.
-use Rattle.common.proofs.Words.{◌≡◌, refl, sym, ◌∙◌, Bool, true, false, cond, not, ◌&&◌, and-false, or-true, List, [], ◌∷◌, ◌++◌, map}
-use Rattle.common.proofs.Words.{map-append, ℕ, ◌+◌, ◌-◌, ◌≤◌, ◌<◌, zero-add, add-zero, add_assoc, arith, leb, le-leb, lt-leb}
+-- The book's settling by prefix sums and the account's queue agree: the queue is the entries that are not settled, read as items. To settle it
+-- is to move on what is paid in. Assumes nothing.
+use Rattle.common.proofs.Words.{◌≡◌, refl, ap, ap₂, ◌∙◌, ◌⊎◌, inl, inr, false, cond, not, ◌&&◌, List, [], ◌∷◌, ◌++◌, map}
+use Rattle.common.proofs.Words.{ℕ, ◌+◌, ◌-◌, ◌≤◌, ◌<◌, min, zero-add, add-zero, le_refl, arith, le-leb, lt-leb}
+use native.Mathlib.Nat.{sub-add-eq, zero-mul}
 use Rattle.lists.specs.{Sum.total, Every.Every}
+use Rattle.lists.proofs.Sum.{total_append}
 use Rattle.common.proofs.Cases.{by_test, by_order, by_cond}
-use Rattle.lists.proofs.Every.{every_append}
-use Rattle.ledger.specs.{declared.Item.Item, Interest.is_price, Interest.interest_on, Settling.Settlement, Settling.settle}
-use Rattle.ledger.proofs.{Interest.interest_bears_none, Settling.interest_reduced}
-use Rattle.audit.specs.Book.{Entry, marked, arising}
-
-abbrev pub items_of : List Entry → List Item
-items_of = map (λ e. e.item)
-
--- What all this, paid over all these entries, leaves.
-abbrev pub paid_over : ℕ → List Entry → Settlement
-paid_over paid es = settle 0 paid (items_of es)
-
--- What the entries up to this one come to, with those before it.
-abbrev up_to : ℕ → Entry → ℕ
-up_to earlier e = earlier + e.item.amount
-
-abbrev OfPrice : Entry → Type 0
-OfPrice e = is_price e.item.kind ≡ true
-
--- An entry's item stands in the book in full.
-abbrev pub Full : Entry → Type 0
-Full e = e.item.unpaid ≡ e.item.amount
-
--- An entry that is new: in full, and as a price entry not marked.
-pub record Fresh (e : Entry) : Type 0 where
-  pub in_full : Full e
-  pub unmarked : OfPrice e → e.settled ≡ false
-
--- A price entry's mark says whether what was paid reaches the sum up to it.
-abbrev pub Marks : ℕ → ℕ → List Entry → Type 0
-Marks paid earlier [] = Unit {0}
-Marks paid earlier (e ∷ es) = (OfPrice e → e.settled ≡ leb (up_to earlier e) paid) × Marks paid (up_to earlier e) es
-
--- Past what was paid no price entry is marked, and none is settled.
-fresh_past : (paid earlier : ℕ) (es : List Entry) → paid < earlier → Every Full es → Marks paid earlier es → Every Fresh es
-fresh_past paid earlier [] h full w = tt
-fresh_past paid earlier (e ∷ es) h full w = (
-  record { in_full = full.0; unmarked = λ price. w.0 price ∙ lt-leb (up_to earlier e) paid (omega arith) },
-  fresh_past paid (up_to earlier e) es (omega arith) full.1 w.1,
-)
-
-none_past : (day paid earlier : ℕ) (es : List Entry) → paid < earlier → arising day paid earlier es ≡ 0
-none_past day paid earlier [] h = refl
-none_past day paid earlier (e ∷ es) h =
-    let later = none_past day paid (up_to earlier e) es (omega arith) in
-    rw (lt-leb (up_to earlier e) paid (omega arith), and-false (not e.settled), later)
-
--- What one entry brings, by whether it is reached: its interest if it was not settled before; interest bears none.
-module _ (day : ℕ) (e : Entry) where
-  abbrev brought : Bool → ℕ
-  brought reached = cond (not e.settled && reached) (interest_on e.item day) 0
-
-  interest_brings : is_price e.item.kind ≡ false → (reached : Bool) → brought reached ≡ 0
-  interest_brings none reached =
-      rw (interest_bears_none e.item day none) (by_cond (λ n. n ≡ 0) (not e.settled && reached) refl refl)
-
-  brings : (OfPrice e → e.settled ≡ false) → brought true ≡ interest_on e.item day
-  brings unmarked =
-      by_test (is_price e.item.kind) (λ price. rw (unmarked price))
-      (λ none. interest_brings none true ∙ sym (interest_bears_none e.item day none))
-
-  brings_none : (OfPrice e → e.settled ≡ true) → (reached : Bool) → brought reached ≡ 0
-  brings_none was reached =
-      by_test (is_price e.item.kind) (λ price. rw (was price)) (λ none. interest_brings none reached)
-
--- Entries that were not settled before: settling them brings what the book says.
-all_arising : (day paid earlier : ℕ) (es : List Entry) → Every Fresh es
-    → (settle day paid (items_of es)).arisen ≡ arising day (earlier + paid) earlier es
-all_arising day paid earlier [] fresh = refl
-all_arising day paid earlier (e ∷ es) fresh =
-    let due = e.item.unpaid in
-    let next = up_to earlier e in
-    let full = fresh.0.in_full in
-    let later = all_arising day (paid - due) next es fresh.1 in
-    by_order paid due
-    (λ h.
-    let none = none_past day (earlier + paid) next es (omega arith) in
-    rw (lt-leb due paid h, lt-leb next (earlier + paid) (omega arith), and-false (not e.settled), none))
-    (λ h.
-    let same : next + (paid - due) ≡ earlier + paid = omega arith in
-    rw (le-leb due paid h, le-leb next (earlier + paid) (omega arith), brings day e fresh.0.unmarked, later, same))
-
--- What more money, and more entries behind, bring on top of what was settled before.
-module _ (day more : ℕ) (behind : List Entry) (fresh : Every Fresh behind) where
-  abbrev then : Settlement → Settlement
-  then done = settle day (done.left + more) (done.open_items ++ items_of behind)
-
-  pub arising_is : (paid earlier : ℕ) (es : List Entry) → Every Full es → Marks (earlier + paid) earlier es
-      → (then (paid_over paid es)).arisen ≡ arising day (earlier + (paid + more)) earlier (es ++ behind)
-  arising_is paid earlier [] full marks = all_arising day (paid + more) earlier behind fresh
-  arising_is paid earlier (e ∷ es) full marks =
-      let due = e.item.unpaid in
-      let next = up_to earlier e in
-      let whole = earlier + (paid + more) in
-      let in_full = full.0 in
-      let later = arising_is (paid - due) next es full.1 in
-      by_order paid due
-      (λ h.
-      -- it was not settled: now it is reached, or not
-      let was : OfPrice e → e.settled ≡ false = λ price. marks.0 price ∙ lt-leb next (earlier + paid) (omega arith) in
-      let new = every_append Fresh es behind (fresh_past (earlier + paid) next es (omega arith) full.1 marks.1) fresh in
-      by_order more (due - paid)
-      (λ l.
-      let none = none_past day whole next (es ++ behind) (omega arith) in
-      rw (lt-leb due paid h, zero-add more, lt-leb (due - paid) more l, lt-leb next whole (omega arith))
-      (rw (and-false (not e.settled), none)))
-      (λ l.
-      let same : next + (more - (due - paid)) ≡ whole = omega arith in
-      let rest = rw (same, map-append (λ x. x.item) es behind) at (all_arising day (more - (due - paid)) next (es ++ behind) new) in
-      rw (lt-leb due paid h, zero-add more, le-leb (due - paid) more l, le-leb next whole (omega arith))
-      (rw (interest_reduced e.item paid day, brings day e was, rest))))
-      (λ h.
-      let same : next + (paid - due) ≡ earlier + paid = omega arith in
-      let all : next + (paid - due + more) ≡ whole = omega arith in
-      let was : OfPrice e → e.settled ≡ true = λ price. marks.0 price ∙ le-leb next (earlier + paid) (omega arith) in
-      rw (le-leb due paid h, brings_none day e was (leb next whole), later (rw same marks.1), all)
-      (sym (zero-add (arising day whole next (es ++ behind)))))
+use Rattle.ledger.specs.Interest.{is_price, body_of, counted_days, borne, gathered_with, interest_on}
+use Rattle.ledger.specs.{declared.Item.Item, Settling.Settlement, Settling.reduced, Settling.with_interest, Settling.settle}
+use Rattle.ledger.specs.Settling.{unpaid_of}
+use Rattle.ledger.proofs.Interest.{interest_bears_none}
+use Rattle.audit.specs.Book.{Entry, body_paid, covering, covered_by, is_settled, brought, arising}
 
 abbrev pub amounts : List Entry → ℕ
-amounts = total (λ e. e.item.amount)
+amounts = total (λ e. e.amount)
 
--- Marking brings the marks up to date where more is paid, with new entries behind, and changes no item.
-fresh_marked : (paid earlier : ℕ) (es : List Entry) → Every Fresh es → Marks paid earlier (marked paid earlier es)
-fresh_marked paid earlier [] w = tt
-fresh_marked paid earlier (e ∷ es) w = ((λ price. rw (w.0.unmarked price)), fresh_marked paid (up_to earlier e) es w.1)
+-- An entry read as an item, and the queue.
+abbrev pub as_item : Entry → Item
+as_item e =
+    record {
+      amount = e.amount;
+      unpaid = e.amount - e.covered;
+      share = body_of e.kind e.amount e.obligation - e.covered;
+      gathered = e.gathered;
+      obligation = e.obligation;
+      due = e.due;
+      kind = e.kind;
+    }
 
-pub marks_after : (paid more earlier : ℕ) (es behind : List Entry) → paid ≤ more → Marks paid earlier es → Every Fresh behind
-    → Marks more earlier (marked more earlier (es ++ behind))
-marks_after paid more earlier [] behind h marks fresh = fresh_marked more earlier behind fresh
-marks_after paid more earlier (e ∷ es) behind h marks fresh =
-    let next = up_to earlier e in (
-      (λ price.
-          by_order more next (λ l. rw (marks.0 price, lt-leb next paid (omega arith)))
-          (λ l. rw (le-leb next more l, or-true e.settled))),
-      marks_after paid more next es behind h marks.1 fresh,
-    )
+abbrev pub still_open : List Entry → List Item
+still_open [] = []
+still_open (e ∷ es) = cond (is_settled e) (still_open es) (as_item e ∷ still_open es)
 
-module _ (paid : ℕ) where
-  pub items_marked : (earlier : ℕ) (es : List Entry) → items_of (marked paid earlier es) ≡ items_of es
-  items_marked earlier [] = refl
-  items_marked earlier (e ∷ es) = rw (items_marked (up_to earlier e) es)
+-- Each entry is covered by what of the sum paid in reaches it.
+abbrev pub Covers : ℕ → ℕ → List Entry → Type 0
+Covers paid earlier [] = Unit {0}
+Covers paid earlier (e ∷ es) = (e.covered ≡ min e.amount (paid - earlier)) × Covers paid (earlier + e.amount) es
 
-  pub full_marked : (earlier : ℕ) (es : List Entry) → Every Full es → Every Full (marked paid earlier es)
-  full_marked earlier [] w = tt
-  full_marked earlier (e ∷ es) w = (w.0, full_marked (up_to earlier e) es w.1)
+-- Settling brings that about, and changes no amount.
+pub covers_after : (day paid earlier : ℕ) (es : List Entry) → Covers paid earlier (covered_by day paid earlier es)
+covers_after day paid earlier [] = tt
+covers_after day paid earlier (e ∷ es) = (refl, covers_after day paid (earlier + e.amount) es)
 
-  pub amounts_marked : (earlier : ℕ) (es : List Entry) → amounts (marked paid earlier es) ≡ amounts es
-  amounts_marked earlier [] = refl
-  amounts_marked earlier (e ∷ es) = rw (amounts_marked (up_to earlier e) es)
+pub amounts_after : (day paid earlier : ℕ) (es : List Entry) → amounts (covered_by day paid earlier es) ≡ amounts es
+amounts_after day paid earlier [] = refl
+amounts_after day paid earlier (e ∷ es) = rw (amounts_after day paid (earlier + e.amount) es)
 
--- Where the marks are up to date nothing more arises.
-pub none_arising : (day paid earlier : ℕ) (es : List Entry) → Marks paid earlier es → arising day paid earlier es ≡ 0
-none_arising day paid earlier [] w = refl
-none_arising day paid earlier (e ∷ es) w =
-    let later = none_arising day paid (up_to earlier e) es w.1 in
-    by_test (leb (up_to earlier e) paid) (λ t. rw (brings_none day e (λ price. w.0 price ∙ t) (leb (up_to earlier e) paid), later))
-    (λ t. rw (t, and-false (not e.settled), later))
+-- An entry that no more reaches than did stays as it is, and brings nothing.
+covering_same : (day reaching : ℕ) (e : Entry) → e.covered ≡ min e.amount reaching → covering day reaching e ≡ e
+covering_same day reaching e same =
+    let none : body_paid e e.covered - body_paid e e.covered ≡ 0 = omega arith in
+    rw (← same, none, zero-mul (counted_days e.due day), add-zero e.gathered)
 
--- Marks of a list with more entries behind.
-pub marks_append : (paid earlier : ℕ) (es behind : List Entry) → Marks paid earlier es → Marks paid (earlier + amounts es) behind
-    → Marks paid earlier (es ++ behind)
-marks_append paid earlier [] behind w v = rw (add-zero earlier) at v
-marks_append paid earlier (e ∷ es) behind w v =
-    (w.0, marks_append paid (up_to earlier e) es behind w.1 (rw (add_assoc earlier e.item.amount (amounts es)) v))
+brings_none : (e : Entry) → brought e e ≡ 0
+brings_none e = by_test (is_settled e) (λ t. rw t) (λ t. rw t)
+
+module _ (day paid more : ℕ) where
+  pub covered_same : (earlier : ℕ) (es : List Entry) → more - earlier ≡ paid - earlier → Covers paid earlier es
+      → covered_by day more earlier es ≡ es
+  covered_same earlier [] h w = refl
+  covered_same earlier (e ∷ es) h w =
+      ap₂ ◌∷◌ (covering_same day (more - earlier) e (rw h w.0)) (covered_same (earlier + e.amount) es (omega arith) w.1)
+
+  pub none_arising : (earlier : ℕ) (es : List Entry) → more - earlier ≡ paid - earlier → Covers paid earlier es
+      → arising day more earlier es ≡ 0
+  none_arising earlier [] h w = refl
+  none_arising earlier (e ∷ es) h w =
+      let same = covering_same day (more - earlier) e (rw h w.0) in
+      ap₂ ◌+◌ (ap (brought e) same ∙ brings_none e) (none_arising (earlier + e.amount) es (omega arith) w.1)
+
+-- A part paid of an entry read as an item is what covering makes of the entry, and the last part brings what the book says.
+part_is : (day money reaching : ℕ) (e : Entry) → money + e.covered ≡ min e.amount reaching
+    → reduced day (as_item e) money ≡ as_item (covering day reaching e)
+part_is day money reaching e same = λ i.
+    record {
+      amount = e.amount;
+      unpaid = unpaid i;
+      share = share i;
+      gathered = gathered i;
+      obligation = e.obligation;
+      due = e.due;
+      kind = e.kind;
+    }
+  where
+    body : ℕ
+    body = body_of e.kind e.amount e.obligation
+
+    unpaid : e.amount - e.covered - money ≡ e.amount - min e.amount reaching
+    unpaid = omega (arith, same)
+
+    share : body_of e.kind e.amount e.obligation - e.covered - money ≡ body_of e.kind e.amount e.obligation - min e.amount reaching
+    share = omega (arith, same)
+
+    paid : min (body_of e.kind e.amount e.obligation - e.covered) money ≡ body_paid e (min e.amount reaching) - body_paid e e.covered
+    paid = rw (← same) (omega arith)
+
+    gathered : gathered_with day (as_item e) money ≡ (covering day reaching e).gathered
+    gathered = rw paid
+
+last_is : (day reaching : ℕ) (e : Entry) → e.amount - e.covered + e.covered ≡ min e.amount reaching
+    → interest_on (as_item e) day ≡ borne e.kind (covering day reaching e).gathered
+last_is day reaching e same = ap (λ (x : Item). borne e.kind x.gathered) (part_is day (e.amount - e.covered) reaching e same)
+
+-- The numbers of one entry: what reached it before and reaches it now, the sum of those behind it, and the money.
+module _ (amount covered before now rest money : ℕ) (w : covered ≡ min amount before) (m : money + min before (amount + rest) ≡ now) where
+  on_whole : amount ≤ covered → money + min (before - amount) rest ≡ now - amount
+  on_whole h = omega arith
+
+  reaches : covered < amount → money + covered ≡ now
+  reaches h = omega arith
+
+  none_behind : covered < amount → min (before - amount) rest ≡ 0
+  none_behind h = omega arith
+
+  on_settled : covered < amount → amount - covered ≤ money → money - (amount - covered) + min (before - amount) rest ≡ now - amount
+  on_settled h g = rw (none_behind h) (omega (arith, reaches h))
+
+-- What the book says that settling comes to.
+abbrev pub said : ℕ → ℕ → ℕ → List Entry → Settlement
+said day paid earlier es =
+    record {
+      left = paid - (earlier + amounts es);
+      open_items = still_open (covered_by day paid earlier es);
+      arisen = arising day paid earlier es;
+    }
+
+-- An entry by what the money makes of it, where those behind it move on as the book says.
+module _ (day paid more money earlier : ℕ) (e : Entry) (es : List Entry) (w : Covers paid earlier (e ∷ es))
+    (m : money + min (paid - earlier) (amounts (e ∷ es)) ≡ more - earlier)
+    (ahead : (n : ℕ) → n + min (paid - (earlier + e.amount)) (amounts es) ≡ more - (earlier + e.amount)
+    → settle day n (still_open es) ≡ said day more (earlier + e.amount) es) where
+  abbrev Moves : Type 0
+  Moves = settle day money (still_open (e ∷ es)) ≡ said day more earlier (e ∷ es)
+
+  abbrev reaching : ℕ
+  reaching = more - earlier
+
+  sums : earlier + (e.amount + amounts es) ≡ earlier + e.amount + amounts es
+  sums = omega arith
+
+  rest : (n : ℕ) → n + min (paid - earlier - e.amount) (amounts es) ≡ more - earlier - e.amount
+      → settle day n (still_open es) ≡ said day more (earlier + e.amount) es
+  rest n h = ahead n (rw (sub-add-eq paid earlier e.amount, sub-add-eq more earlier e.amount) h)
+
+  reach : e.covered < e.amount → money + e.covered ≡ reaching
+  reach = reaches e.amount e.covered (paid - earlier) reaching (amounts es) money w.0 m
+
+  -- it was settled before
+  was_settled : e.amount ≤ e.covered → Moves
+  was_settled h =
+      let after = le-leb e.amount (min e.amount reaching) (omega (arith, w.0, m)) in
+      let later = rest money (on_whole e.amount e.covered (paid - earlier) reaching (amounts es) money w.0 m h) in
+      rw (le-leb e.amount e.covered h, after, sums, zero-add (arising day more (earlier + e.amount) es)) later
+
+  -- it is now
+  is_now : e.covered < e.amount → e.amount - e.covered ≤ money → Moves
+  is_now h g =
+      let all : min e.amount reaching ≡ e.amount = omega (arith, reach h) in
+      let after = le-leb e.amount (min e.amount reaching) (rw all (le_refl e.amount)) in
+      let part : e.amount - e.covered + e.covered ≡ min e.amount reaching = omega (arith, all) in
+      let money-on = on_settled e.amount e.covered (paid - earlier) reaching (amounts es) money w.0 m h g in
+      let later = rest (money - (e.amount - e.covered)) money-on in
+      rw (lt-leb e.amount e.covered h, le-leb (e.amount - e.covered) money g, after, sums)
+      (λ i. with_interest (last_is day reaching e part i) (later i))
+
+  -- it is paid in part
+  in_part : e.covered < e.amount → money < e.amount - e.covered → Moves
+  in_part h g =
+      let part : money + e.covered ≡ min e.amount reaching = omega (arith, reach h) in
+      let after = lt-leb e.amount (min e.amount reaching) (omega (arith, reach h)) in
+      let none : more - (earlier + e.amount + amounts es) ≡ 0 = omega (arith, reach h) in
+      let cut : more - (earlier + e.amount) ≡ paid - (earlier + e.amount) = omega (arith, reach h, w.0) in
+      let same = covered_same day paid more (earlier + e.amount) es cut w.1 in
+      let brings = none_arising day paid more (earlier + e.amount) es cut w.1 in
+      rw (lt-leb e.amount e.covered h, lt-leb (e.amount - e.covered) money g, after, sums, none, same, brings)
+      (rw (part_is day money reaching e part))
+
+  moves : Moves
+  moves = by_order e.covered e.amount (λ h. by_order money (e.amount - e.covered) (in_part h) (is_now h)) was_settled
+
+-- Settling the queue is moving on what is paid in: the money and what was covered before are what reaches the entries now.
+settle_moves : (day paid more money earlier : ℕ) (es : List Entry) → Covers paid earlier es
+    → money + min (paid - earlier) (amounts es) ≡ more - earlier
+    → settle day money (still_open es) ≡ said day more earlier es
+settle_moves day paid more money earlier [] w m =
+    let left : money ≡ more - (earlier + 0) = omega arith in
+    rw left
+settle_moves day paid more money earlier (e ∷ es) w m =
+    moves day paid more money earlier e es w m (λ n. settle_moves day paid more n (earlier + e.amount) es w.1)
+
+-- Entries that nothing covers yet, each above zero: the queue has them all.
+abbrev pub Fresh : List Entry → Type 0
+Fresh = Every (λ e. (e.covered ≡ 0) × (1 ≤ e.amount))
+
+fresh_covers : (paid earlier : ℕ) (es : List Entry) → paid ≤ earlier → Fresh es → Covers paid earlier es
+fresh_covers paid earlier [] h fresh = tt
+fresh_covers paid earlier (e ∷ es) h fresh =
+    (omega (arith, fresh.0.0), fresh_covers paid (earlier + e.amount) es (omega arith) fresh.1)
+
+-- Behind entries that a sum covers, fresh ones are covered by no more than those take of it.
+covers_behind : (paid earlier : ℕ) (es behind : List Entry) → Covers paid earlier es → Fresh behind
+    → Covers (min paid (earlier + amounts es)) earlier (es ++ behind)
+covers_behind paid earlier [] behind w fresh = fresh_covers (min paid (earlier + 0)) earlier behind (omega arith) fresh
+covers_behind paid earlier (e ∷ es) behind w fresh =
+    let all : earlier + e.amount + amounts es ≡ earlier + (e.amount + amounts es) = omega arith in
+    (omega (arith, w.0), rw all at (covers_behind paid (earlier + e.amount) es behind w.1 fresh))
+
+open_behind : (es behind : List Entry) → Fresh behind → still_open (es ++ behind) ≡ still_open es ++ map as_item behind
+open_behind [] [] fresh = refl
+open_behind [] (e ∷ es) fresh =
+    rw (lt-leb e.amount e.covered (omega (arith, fresh.0.0, fresh.0.1))) (ap (as_item e ∷◌) (open_behind [] es fresh.1))
+open_behind (e ∷ es) behind fresh =
+    let later = open_behind es behind fresh in
+    by_test (is_settled e) (λ t. rw t later) (λ t. rw t (ap (as_item e ∷◌) later))
+
+-- Posting behind the queue and settling with more money is entering behind the entries and moving on what is paid in.
+pub posting_moves : (day paid more : ℕ) (es behind : List Entry) → Covers paid 0 es → Fresh behind
+    → settle day (paid - amounts es + more) (still_open es ++ map as_item behind) ≡ said day (paid + more) 0 (es ++ behind)
+posting_moves day paid more es behind w fresh =
+    let all = total_append (λ (e : Entry). e.amount) es behind in
+    let before = covers_behind paid 0 es behind w fresh in
+    rw (← open_behind es behind fresh)
+    (settle_moves day (min paid (0 + amounts es)) (paid + more) (paid - amounts es + more) 0 (es ++ behind) before (rw all (omega arith)))
+
+-- What is unpaid of the queue is what of the entries was not reached.
+pub unpaid_open : (paid earlier : ℕ) (es : List Entry) → Covers paid earlier es
+    → unpaid_of (still_open es) + min (paid - earlier) (amounts es) ≡ amounts es
+unpaid_open paid earlier [] w = omega arith
+unpaid_open paid earlier (e ∷ es) w =
+    let later = unpaid_open paid (earlier + e.amount) es w.1 in
+    by_order e.covered e.amount (λ h. rw (lt-leb e.amount e.covered h) (omega (arith, w.0, later)))
+    (λ h. rw (le-leb e.amount e.covered h) (omega (arith, w.0, later)))
+
+-- Interest entries behind entries that are covered up to date bring nothing.
+pub none_behind_interest : (day paid earlier : ℕ) (es behind : List Entry) → Covers paid earlier es
+    → Every (λ e. is_price e.kind ≡ false) behind → arising day paid earlier (es ++ behind) ≡ 0
+none_behind_interest day paid earlier [] [] w interest = refl
+none_behind_interest day paid earlier [] (e ∷ es) w interest =
+    let now = covering day (paid - earlier) e in
+    let none = interest_bears_none now.kind now.gathered interest.0 in
+    let first : brought e now ≡ 0 = rw none (by_cond (λ n. n ≡ 0) (not (is_settled e) && is_settled now) refl refl) in
+    ap₂ ◌+◌ first (none_behind_interest day paid (earlier + e.amount) [] es tt interest.1)
+none_behind_interest day paid earlier (e ∷ es) behind w interest =
+    let same = covering_same day (paid - earlier) e w.0 in
+    ap₂ ◌+◌ (ap (brought e) same ∙ brings_none e) (none_behind_interest day paid (earlier + e.amount) es behind w.1 interest)
+
+-- What is above the entries is 0, or all of them are covered.
+none_open : (paid earlier : ℕ) (es : List Entry) → Covers paid earlier es → earlier + amounts es ≤ paid → still_open es ≡ []
+none_open paid earlier [] w h = refl
+none_open paid earlier (e ∷ es) w h =
+    rw (le-leb e.amount e.covered (omega (arith, w.0))) (none_open paid (earlier + e.amount) es w.1 (omega arith))
+
+pub credit_or_none : (paid : ℕ) (es : List Entry) → Covers paid 0 es → (paid - amounts es ≡ 0) ⊎ (still_open es ≡ [])
+credit_or_none paid es w =
+    by_order paid (amounts es) (λ h. inl (omega arith)) (λ h. inr (none_open paid 0 es w (omega arith)))

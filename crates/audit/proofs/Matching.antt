@@ -7,7 +7,7 @@ use Rattle.intake.specs.Statuses.{start_of, stop_of, is_new, is_supplied, is_sto
 use Rattle.intake.specs.{declared.Status.Status, Limits.most_misses}
 use Rattle.account.specs.declared.Account.{Account}
 use Rattle.closing.specs.Closing.{stored_estimates}
-use Rattle.account.proofs.{Facts.Facts, Facts.StatusFacts, Sound.load, Sound.most_load}
+use Rattle.account.proofs.{Facts.Facts, Facts.StatusFacts, Sound.Limited}
 use Rattle.audit.specs.Book.{Book, Metering, Period, prices, pool_with, volume_before, closed_on}
 use Rattle.audit.proofs.{Balance.Balanced, Balance.on_ledger, Periods.AbsentZero, Periods.standing_of}
 
@@ -39,7 +39,7 @@ pub record Matched (a : Account) (b : Book) : Type 0 where
   pub balanced : Balanced a.ledger b.money (prices b.periods)
   pub status_match : StatusMatch a.status b
   pub facts : StatusFacts a.status a
-  pub load_most : load (on_ledger b.money) ≤ most_load
+  pub limited : Limited (on_ledger b.money)
 
 -- A status by its test.
 pub new_is : (status : Status) → is_new status ≡ true → status ≡ New

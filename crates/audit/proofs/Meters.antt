@@ -3,13 +3,13 @@ use Rattle.common.proofs.Words.{◌≡◌, refl, ap, sym, subst, inl, Bool, fals
 use Rattle.lists.specs.Every.{Every}
 use Rattle.common.proofs.Cases.{by_cond}
 use Rattle.lists.proofs.Every.{every_map}
-use Rattle.ledger.specs.{declared.Ledger.Ledger, Posting.Standing, Posting.standing}
+use Rattle.ledger.specs.{declared.Ledger.Ledger, Posting.standing}
 use Rattle.account.specs.{declared.Account.Account, Calls.head_of, Calls.standing_estimates}
 use Rattle.intake.specs.{Limits.most_volume, Limits.most_misses, Statuses.stop_of, Statuses.is_new, Statuses.is_stopped, Periods.resumed_start}
 use Rattle.account.proofs.Facts.{ItemFacts, LedgerFacts, EstimateFacts, estimates_later, new_facts}
-use Rattle.account.proofs.Sound.{item_later, load, most_load}
+use Rattle.account.proofs.Sound.{item_later, Limited}
 use Rattle.intake.proofs.Passed.{DialPassed, ExchangePassed}
-use Rattle.audit.specs.Book.{Book, closed_on, settled, accept_meter, begun, exchanged}
+use Rattle.audit.specs.Book.{Book, Money, closed_on, settled, accept_meter, begun, exchanged}
 use Rattle.audit.proofs.Balance.{on_ledger, settled_same, quiet_balanced, finished_open}
 use Rattle.audit.proofs.Matching.{pool_to_lem, Matched, new_open, supply, stop}
 use Rattle.account.specs.Calls
@@ -21,9 +21,8 @@ ledger_later {latest} {day} {ledger} h w =
     search
 
 -- The money of the book after such a call.
-load_same : {a : Account} {b : Book} (day : ℕ) → Matched a b → load (on_ledger (settled b.money day)) ≤ most_load
-load_same day w =
-    subst (λ (s : Standing). load s ≤ most_load) (sym (settled_same day w.balanced.kept)) w.load_most
+limited_same : {a : Account} {b : Book} (day : ℕ) → Matched a b → Limited (on_ledger (settled b.money day))
+limited_same day w = subst (λ (m : Money). Limited (on_ledger m)) (sym (settled_same day w.balanced.kept)) w.limited
 
 -- What an account keeps as it is when the dial is set.
 record Carried (a : Account) : Type 0 where
@@ -46,7 +45,7 @@ module _ (holidays : List ℕ) {a : Account} {b : Book} (w : Matched a b) {day r
         balanced = quiet_balanced day w.balanced;
         status_match = (same, not_cancelled);
         facts = (start_most, record { meter = search; ledger = ledger_later p.not_before kept.ledger });
-        load_most = load_same day w;
+        limited = limited_same day w;
       })
 
 pub opening_matched : (holidays : List ℕ) {a : Account} {b : Book} → Matched a b → {day reading digits : ℕ}
@@ -88,5 +87,5 @@ exchange_matched holidays {a} {b} w {day} {old} p =
             omega (arith, supplied.start_most, p.not_before),
             record { meter = search; ledger = ledger_later p.not_before supplied.facts.ledger },
           );
-      load_most = load_same day w;
+      limited = limited_same day w;
     })

@@ -18,7 +18,7 @@ use Rattle.closing.proofs.Nets.{billable}
 use Rattle.audit.specs.Book.{Book, Money, Period, is_reading, is_absence, as_estimate, estimates, prices, price_at, new_period, net_added}
 use Rattle.audit.specs.Book.{settled, finished, accept_miss}
 use Rattle.audit.proofs.Matching.{Matched, Supply, supply, estimates_stand}
-use Rattle.audit.proofs.Standings.{Stands, Fits, stands_load, stands_balanced, stands_facts, closing_stands}
+use Rattle.audit.proofs.Standings.{Stands, Fits, stands_limited, stands_balanced, stands_facts, closing_stands}
 use Rattle.audit.proofs.{Balance.finished_open, Periods.sub_added, Periods.standing_of}
 use Rattle.audit.specs.Book
 
@@ -110,5 +110,5 @@ module _ (holidays : List ℕ) (listed : list_allowed holidays ≡ true)
         balanced = stands_balanced closed_after fits;
         status_match = (refl, unfold money in supplied.not_cancelled);
         facts = (le_refl (day + 1), record { meter = meter_after; ledger = stands_facts closed_after fits });
-        load_most = stands_load closed_after;
+        limited = stands_limited closed_after;
       })

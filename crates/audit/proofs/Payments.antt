@@ -12,9 +12,9 @@ use Rattle.ledger.proofs.Within.{Passes}
 use Rattle.account.proofs.Facts.{Facts, StatusFacts, estimates_later, not_new_facts}
 use Rattle.intake.proofs.Passed.{PaymentPassed}
 use Rattle.audit.specs.Book.{Book, Money, prices, settled, received, interest_entered, cancelled, accept_money}
-use Rattle.audit.proofs.Standings.{Stands, Fits, stands, stands_load, stands_balanced, stands_facts, cancelled_stands, waits_stands}
+use Rattle.audit.proofs.Standings.{Stands, Fits, stands, stands_limited, stands_balanced, stands_facts, cancelled_stands, waits_stands}
 use Rattle.audit.proofs.Standings.{paid_stands, posted_stands}
-use Rattle.audit.proofs.Balance.{finished_open, finished_cancelled}
+use Rattle.audit.proofs.Balance.{finished_open, finished_cancelled, entered_none}
 use Rattle.audit.proofs.Matching.{Matched, StatusMatch, cancelled_is}
 
 -- What a call leaves that has to do with money alone.
@@ -38,7 +38,7 @@ module _ (holidays : List ℕ) (listed : list_allowed holidays ≡ true)
         → Matched (with_ledger a day status (stored x)) (book_with m)
     money_matched status match kept =
         let balanced = stands_balanced s fits in
-        record { metered = w.metered; balanced = balanced; status_match = match; facts = kept; load_most = stands_load s }
+        record { metered = w.metered; balanced = balanced; status_match = match; facts = kept; limited = stands_limited s }
 
     cancelled_matched : m.unentered ≡ 0 → m.is_cancelled ≡ true → Matched (with_ledger a day Cancelled (stored x)) (book_with m)
     cancelled_matched none marked =
@@ -69,15 +69,17 @@ module _ (holidays : List ℕ) (listed : list_allowed holidays ≡ true)
         → Matched (with_ledger a day Cancelled (stored (held_posted holidays day (paid_ledger a day yen))))
         (accept_money holidays b day (received b.money yen))
     cancelled_payment marked fits =
+        let none = entered_none holidays day paid_after.kept in
         rw (finished_cancelled holidays (received b.money yen) day marked)
-        (cancelled_matched (posted_stands paid_after holidays listed day_most fits.count_most) fits refl marked)
+        (cancelled_matched (posted_stands paid_after holidays listed day_most fits.count_most) fits none marked)
 
   -- 0a: cancellation while stopped.
   pub stopped_cancellation_matched : Fits (held_posted holidays day (standing a.ledger))
       → Matched (stopped_cancellation holidays a day).account (accept_money holidays b day (cancelled (interest_entered holidays b.money day)))
   stopped_cancellation_matched fits =
       let posted = posted_stands before holidays listed day_most fits.count_most in
-      cancelled_matched (cancelled_stands (waits_stands posted holidays refl)) fits refl refl
+      let waits = waits_stands posted holidays (entered_none holidays day before.kept) in
+      cancelled_matched (cancelled_stands waits) fits (entered_none holidays day posted.kept) refl
 
 -- 09 by status.
 pub payment_matched : (holidays : List ℕ) → list_allowed holidays ≡ true → {a : Account} {b : Book} → Matched a b → {day yen : ℕ}

@@ -23,9 +23,9 @@ use Rattle.audit.specs.Book.{Book, Money, Period, is_reading, is_absence, prices
 use Rattle.audit.specs.Book.{net_added, settled, finished, interest_entered, cancelled, read, accept_reading}
 use Rattle.audit.proofs.Periods.{given, last_is, net_added_lem, zeros_after}
 use Rattle.audit.proofs.Matching.{Metered, pool_to_lem, estimates_stand, Matched, StatusMatch, Supply, supply}
-use Rattle.audit.proofs.Standings.{Stands, Fits, stands_load, stands_balanced, stands_facts, cancelled_stands, posted_stands}
+use Rattle.audit.proofs.Standings.{Stands, Fits, stands_limited, stands_balanced, stands_facts, cancelled_stands, posted_stands}
 use Rattle.audit.proofs.Standings.{closing_stands}
-use Rattle.audit.proofs.Balance.{finished_open}
+use Rattle.audit.proofs.Balance.{finished_open, entered_none}
 use Rattle.account.specs.Calls
 use Rattle.audit.specs.Book
 
@@ -146,7 +146,7 @@ module _ (holidays : List ℕ) (listed : list_allowed holidays ≡ true)
           balanced = stands_balanced closed_after fits;
           status_match = match;
           facts = facts;
-          load_most = stands_load closed_after;
+          limited = stands_limited closed_after;
         })
 
     pub reading-matched :
@@ -162,22 +162,23 @@ module _ (holidays : List ℕ) (listed : list_allowed holidays ≡ true)
 
   -- 08: cancellation.
   module _ (fits : Fits (held_posted holidays day ledger)) where
-    last_after : Stands day (held_posted holidays day ledger) (cancelled (interest_entered holidays money day)) (prices periods)
+    last_after : Stands day (held_posted holidays day ledger) (cancelled (settled (interest_entered holidays money day) day)) (prices periods)
     last_after = cancelled_stands (posted_stands closed_after holidays listed p.day_most fits.count_most)
 
     pub cancellation-matched :
         Matched (Calls.cancelled holidays a day reading fuel).account (accept_reading holidays b call day reading fuel cancelled)
     unfolding periods net money
     cancellation-matched =
+        let none = entered_none holidays day closed_after.kept in
         record {
           metered = metered_after;
           balanced = stands_balanced last_after fits;
-          status_match = (refl, refl);
+          status_match = (none, refl);
           facts = (
-            ap (λ (s : Standing). s.held) last_after.is,
+            ap (λ (s : Standing). s.held) last_after.is ∙ none,
             record { meter = meter_after Cancelled (stored (held_posted holidays day ledger)); ledger = stands_facts last_after fits },
           );
-          load_most = stands_load last_after;
+          limited = stands_limited last_after;
         }
 
   -- A real closing makes final what the meters advanced.

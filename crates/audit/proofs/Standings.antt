@@ -1,18 +1,18 @@
 -- What stands on the account is what the book says stands, within its bounds: on a day, and through what calls do to it. Assumes nothing.
-use Rattle.common.proofs.Words.{◌≡◌, ap, sym, subst, ◌∙◌, ◌⊎◌, true, List, [], ℕ, ◌+◌, ◌≤◌, arith, ℤ, length}
+use Rattle.common.proofs.Words.{◌≡◌, ap, sym, subst, ◌∙◌, ◌⊎◌, true, List, [], ℕ, ◌+◌, ◌≤◌, ℤ, length}
 use Rattle.lists.proofs.Every.{every_map}
 use Rattle.duedays.specs.DueDays.{list_allowed}
 use Rattle.ledger.specs.Limits.{last_call_day, capacity, most_price}
 use Rattle.ledger.specs.Posting.{Standing, standing, stored, paid, closed, held_posted, charge_of}
-use Rattle.ledger.proofs.{Bounds.standing_stored, Settling.left_or_none, Within.Passes}
+use Rattle.ledger.proofs.{Bounds.standing_stored, Within.Passes}
 use Rattle.account.specs.declared.Account.{Account}
-use Rattle.account.proofs.Sound.{item_later, load, most_load, Bounded, held_most, paid_bounded, closed_bounded, posted_sound, stored_facts}
+use Rattle.account.proofs.Sound.{item_later, Limited, Bounded, held_most, paid_bounded, closed_bounded, posted_bounded, stored_facts}
 use Rattle.account.proofs.Facts.{ItemFacts, LedgerFacts, Facts}
 use Rattle.audit.specs.Book.{Book, Money, Period, prices, net_added, above_zero, below_zero, paid_in, settled, received, interest_entered}
 use Rattle.audit.specs.Book.{cancelled}
 use Rattle.audit.proofs.Balance.{Balanced, Kept, on_ledger, standing_is, closed_is, closed_kept, paid_is, paid_kept, entered_is}
-use Rattle.audit.proofs.Balance.{entered_kept, quiet_kept, nothing_waits}
-use Rattle.audit.proofs.{Entries.items_of, Periods.difference, Matching.Matched}
+use Rattle.audit.proofs.Balance.{entered_kept, entered_none, nothing_waits}
+use Rattle.audit.proofs.{Entries.credit_or_none, Periods.difference, Matching.Matched}
 use Rattle.audit.specs.Book
 
 pub record Stands (day : ℕ) (x : Standing) (m : Money) (priced : ℕ) : Type 0 where
@@ -30,7 +30,7 @@ pub stands : {a : Account} {b : Book} {day : ℕ} → Matched a b → Facts a �
 stands {a} {b} {day} w facts h =
     let is = standing_is w.balanced in
     let items = (standing a.ledger).open_items in
-    let left = left_or_none 0 (paid_in b.money) (items_of b.money.entries) in
+    let left = credit_or_none (paid_in b.money) b.money.entries w.balanced.kept.covers in
     record {
       is = is;
       kept = w.balanced.kept;
@@ -41,13 +41,13 @@ stands {a} {b} {day} w facts h =
                   items = every_map (ItemFacts a.latest) (ItemFacts day) (item_later a.latest day h) items facts.ledger.items;
                   settled = subst (λ (y : Standing). (y.credit ≡ 0) ⊎ (y.open_items ≡ [])) (sym is) left;
                 };
-            load_most = subst (λ (y : Standing). load y ≤ most_load) (sym is) w.load_most;
+            limited = subst Limited (sym is) w.limited;
           };
     }
 
 module _ {day : ℕ} {x : Standing} {m : Money} {priced : ℕ} (s : Stands day x m priced) where
-  pub stands_load : load (on_ledger m) ≤ most_load
-  stands_load = rw s.is at s.bounded.load_most
+  pub stands_limited : Limited (on_ledger m)
+  stands_limited = subst Limited s.is s.bounded.limited
 
   -- It is stored.
   module _ (fits : Fits x) where
@@ -64,10 +64,8 @@ module _ {day : ℕ} {x : Standing} {m : Money} {priced : ℕ} (s : Stands day x
   cancelled_stands = search
 
   -- Nothing waits to be entered: the end of a call on a cancelled account.
-  pub waits_stands : (holidays : List ℕ) → m.unentered ≡ 0 → Stands day x (interest_entered holidays (settled m day) day) priced
-  waits_stands holidays none =
-      let is = s.is ∙ sym (nothing_waits holidays day s.kept none) in
-      record { is = is; kept = entered_kept holidays day (quiet_kept day s.kept); bounded = s.bounded }
+  pub waits_stands : (holidays : List ℕ) → m.unentered ≡ 0 → Stands day x (settled (interest_entered holidays m day) day) priced
+  waits_stands holidays none = subst (λ (y : Money). Stands day x y priced) (sym (nothing_waits holidays day s.kept none)) s
 
   module _ (day_most : day ≤ last_call_day) where
     pub paid_stands : (yen : ℕ) → Stands day (paid day yen x) (settled (received m yen) day) priced
@@ -86,23 +84,18 @@ module _ {day : ℕ} {x : Standing} {m : Money} {priced : ℕ} (s : Stands day x
         record {
           is = rw s.is (closed_is holidays day s.kept net);
           kept = closed_kept holidays day s.kept net sums;
-          bounded =
-              closed_bounded holidays day x listed day_most s.bounded.sound.items (held_most day x s.bounded) net charge (rw s.is places);
+          bounded = closed_bounded holidays day x listed day_most s.bounded net charge (rw s.is places);
         }
 
     pub posted_stands : length (held_posted holidays day x).open_items ≤ capacity
-        → Stands day (held_posted holidays day x) (interest_entered holidays m day) priced
+        → Stands day (held_posted holidays day x) (settled (interest_entered holidays m day) day) priced
     posted_stands places =
-        let is : held_posted holidays day x ≡ on_ledger (interest_entered holidays m day) = rw s.is (entered_is holidays day s.kept) in
-        let none = ap (λ (y : Standing). y.held) is in
+        let is : held_posted holidays day x ≡ on_ledger (settled (interest_entered holidays m day) day) = rw s.is (entered_is holidays day s.kept) in
+        let none = ap (λ (y : Standing). y.held) is ∙ entered_none holidays day s.kept in
         record {
           is = is;
           kept = entered_kept holidays day s.kept;
-          bounded =
-              record {
-                sound = posted_sound holidays day x listed day_most s.bounded.sound.items (held_most day x s.bounded);
-                load_most = omega (arith, none, places);
-              };
+          bounded = posted_bounded holidays day x listed day_most s.bounded none places;
         }
 
 -- A closing on a matched account.

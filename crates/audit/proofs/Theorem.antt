@@ -6,7 +6,9 @@ use Rattle.lists.specs.Sum.{total, sum}
 use Rattle.common.proofs.Cases.{by_test}
 use Rattle.lists.proofs.Pad.{take_pad}
 use Rattle.duedays.specs.DueDays.{list_allowed}
-use Rattle.ledger.specs.{Settling.unpaid_of, Posting.stored, Posting.Tidy}
+use Rattle.lists.specs.Every.{Every}
+use Rattle.ledger.specs.{Settling.unpaid_of, Posting.Standing, Posting.standing, Posting.stored, Posting.Tidy}
+use Rattle.ledger.proofs.Interest.{PartFacts}
 use Rattle.account.specs.Calls.{standing_estimates, head_of, new_account, Work, work}
 use Rattle.account.specs.Whole.{made_meter, made_estimates, made_ledger, as_made, whole}
 use Rattle.account.specs.{declared.Account.Account, declared.Answer.Answer, declared.Outcome.Outcome, Refusals.refusal}
@@ -132,10 +134,10 @@ start_holds =
       matched =
           record {
             metered = record { dial_is = refl; digits_is = refl; pool_is = refl; previous_is = refl; estimates_are = refl; zeros = tt };
-            balanced = record { stored_as = refl; fits = omega arith; kept = record { full = tt; marks = tt; sums = refl } };
+            balanced = record { stored_as = refl; fits = omega arith; kept = record { covers = tt; sums = refl } };
             status_match = refl;
             facts = refl;
-            load_most = omega arith;
+            limited = record { load_most = omega arith; parts = tt };
           };
       volumes = refl;
     }
@@ -179,6 +181,12 @@ pub tidy_estimates : (holidays : List ℕ) (calls : List Call)
 tidy_estimates holidays calls =
     let metered = (run_holds holidays start calls start_holds).matched.metered in
     metered.estimates_are ∙ ap stored_estimates (sym (estimates_stand metered))
+
+-- Every open item carries of its body what is not paid, and a sum of at most the body that was paid × the most days late.
+pub parts_kept : (holidays : List ℕ) (calls : List Call) → Every PartFacts (standing (run holidays start calls).account.ledger).open_items
+parts_kept holidays calls =
+    let matched = (run_holds holidays start calls start_holds).matched in
+    subst (λ (s : Standing). Every PartFacts s.open_items) (sym (standing_is matched.balanced)) matched.limited.parts
 
 replicate_behind : (n : ℕ) (answer : Answer) (answers : List Answer)
     → replicate n answer ++ (answer ∷ answers) ≡ answer ∷ (replicate n answer ++ answers)

@@ -1,12 +1,12 @@
 -- The book: what a list of calls comes to, from the list of closed days, the calls and the numbers that answered them, and nothing of the account.
-use Rattle.std.specs.Prelude.{Bool, true, false, cond, not, ◌&&◌, ◌||◌, List, [], ◌∷◌, ◌++◌, map, reverse, ℕ, suc, ◌+◌, ◌-◌, ℤ, pos, negsuc, leb, ltb, eqb}
+use Rattle.std.specs.Prelude.{Bool, true, false, cond, not, ◌&&◌, List, [], ◌∷◌, ◌++◌, map, reverse, ℕ, suc, ◌+◌, ◌-◌, ◌*◌, min, ℤ, pos, negsuc, leb, ltb, eqb}
 use Rattle.std.proofs.Math.IntN.{sub_ℕ}
 use Rattle.lists.specs.Sum.{total}
 use Rattle.duedays.specs.DueDays.{due_day}
 use Rattle.tariff.specs.{declared.Fuel.Fuel, declared.BillingPeriod.BillingPeriod, Price.price_of}
 use Rattle.meter.specs.{declared.Estimate.Estimate, Dial.advance, Sharing.final_volumes}
-use Rattle.ledger.specs.{declared.Kind.Kind, declared.Kind.TheVariants.Interest, declared.Kind.TheVariants.Price, declared.Item.Item}
-use Rattle.ledger.specs.Interest.{interest_on}
+use Rattle.ledger.specs.{declared.Kind.Kind, declared.Kind.TheVariants.Interest, declared.Kind.TheVariants.Price}
+use Rattle.ledger.specs.Interest.{body_of, counted_days, borne}
 use Rattle.intake.specs.declared.Call.TheVariants.{Opening, Reading, Missed, Absent, Exchange, Disconnection, Reconnection, Cancellation}
 use Rattle.intake.specs.declared.Call.TheVariants.{Payment, StoppedCancellation}
 use Rattle.intake.specs.declared.Call.{Call}
@@ -20,10 +20,16 @@ pub record Period : Type 0 where
   -- its standing volume: the last it was given
   pub volume : ℕ
 
--- An item entered, and whether it is settled.
+-- An item entered.
 pub record Entry : Type 0 where
-  pub item : Item
-  pub settled : Bool
+  pub kind : Kind
+  pub amount : ℕ
+  pub obligation : ℕ
+  pub due : ℕ
+  -- what of its amount is paid
+  pub covered : ℕ
+  -- body yen × late days of the parts paid so far
+  pub gathered : ℕ
 
 -- What the meters have done.
 pub record Metering : Type 0 where
@@ -148,27 +154,46 @@ last_of (volume ∷ next ∷ volumes) = last_of (next ∷ volumes)
 -- An item of a day, with the ledger's days: due on the first day from 30 days later on that isn't listed as closed.
 abbrev pub entry : List ℕ → Kind → ℕ → ℕ → Entry
 entry holidays kind day amount =
-    record {
-      item = record { amount = amount; unpaid = amount; obligation = day; due = due_day holidays day; kind = kind };
-      settled = false;
-    }
+    record { kind = kind; amount = amount; obligation = day; due = due_day holidays day; covered = 0; gathered = 0 }
 
 -- An amount above zero is entered as an item.
 abbrev pub entered_as : List ℕ → Kind → ℕ → ℕ → List Entry
 entered_as holidays kind day amount = cond (ltb 0 amount) (entry holidays kind day amount ∷ []) []
 
--- Settling by definition: a price item is settled by the first call after which payments plus credited nets reach the sum of all items up to it.
--- `earlier` is what the items before it come to.
-abbrev pub marked : ℕ → ℕ → List Entry → List Entry
-marked paid earlier [] = []
-marked paid earlier (e ∷ es) =
-    record { item = e.item; settled = e.settled || leb (earlier + e.item.amount) paid } ∷ marked paid (earlier + e.item.amount) es
+-- So much of its body is paid where so much of its amount is: the body first, the tax last.
+abbrev pub body_paid : Entry → ℕ → ℕ
+body_paid e covered = min covered (body_of e.kind e.amount e.obligation)
+
+-- An item that this sum reaches on a day: what of its body is paid by it and was not before, times its late days, joins what it gathered.
+abbrev pub covering : ℕ → ℕ → Entry → Entry
+covering day reaching e =
+    let covered = min e.amount reaching in
+    record {
+      kind = e.kind;
+      amount = e.amount;
+      obligation = e.obligation;
+      due = e.due;
+      covered = covered;
+      gathered = e.gathered + (body_paid e covered - body_paid e e.covered) * counted_days e.due day;
+    }
+
+-- Settling by definition, part by part: payments plus credited nets reach an item by what they are above the sum of all items before it.
+-- `earlier` is that sum.
+abbrev pub covered_by : ℕ → ℕ → ℕ → List Entry → List Entry
+covered_by day paid earlier [] = []
+covered_by day paid earlier (e ∷ es) = covering day (paid - earlier) e ∷ covered_by day paid (earlier + e.amount) es
+
+-- It is settled by the first call after which they reach all of it.
+abbrev pub is_settled : Entry → Bool
+is_settled e = leb e.amount e.covered
 
 -- The interest of the items that are settled now and were not before.
+abbrev pub brought : Entry → Entry → ℕ
+brought before after = cond (not (is_settled before) && is_settled after) (borne after.kind after.gathered) 0
+
 abbrev pub arising : ℕ → ℕ → ℕ → List Entry → ℕ
 arising day paid earlier [] = 0
-arising day paid earlier (e ∷ es) =
-    cond (not e.settled && leb (earlier + e.item.amount) paid) (interest_on e.item day) 0 + arising day paid (earlier + e.item.amount) es
+arising day paid earlier (e ∷ es) = brought e (covering day (paid - earlier) e) + arising day paid (earlier + e.amount) es
 
 -- Meters.
 
@@ -277,11 +302,12 @@ cancelled m =
 abbrev pub paid_in : Money → ℕ
 paid_in m = m.received + m.credited
 
--- Each price item that the call settles, on the book's items, payments and credited nets, adds its interest to interest arisen.
+-- The parts that the call pays, on the book's items, payments and credited nets. Each price item that it settles adds its interest to
+-- interest arisen.
 abbrev pub settled : Money → ℕ → Money
 settled m day =
     record {
-      entries = marked (paid_in m) 0 m.entries;
+      entries = covered_by day (paid_in m) 0 m.entries;
       received = m.received;
       credited = m.credited;
       arisen = m.arisen + arising day (paid_in m) 0 m.entries;
@@ -289,9 +315,11 @@ settled m day =
       is_cancelled = m.is_cancelled;
     }
 
--- Last, at every call: items are settled, and from an 08 or 0a on, that one included, interest not yet entered is at once entered as one last item.
+-- Last, at every call: items are settled, and from an 08 or 0a on, that one included, interest not yet entered is at once entered as one
+-- last item, which what is over reaches too.
 abbrev pub finished : List ℕ → Money → ℕ → Money
-finished holidays m day = cond m.is_cancelled (interest_entered holidays (settled m day) day) (settled m day)
+finished holidays m day =
+    cond m.is_cancelled (settled (interest_entered holidays (settled m day) day) day) (settled m day)
 
 -- Calls.
 

@@ -1,2 +1,3 @@
--- The starred figures hold.
+-- Figures worked by hand hold.
 pub mod Starred
+pub mod Parts

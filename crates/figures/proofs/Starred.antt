@@ -6,13 +6,13 @@ use Rattle.tariff.specs.Price.{full_month, basic_charge, band_volume, price_in, 
 use Rattle.tariff.specs.Bands.{band_of}
 use Rattle.meter.specs.{Dial.span, Dial.advance, Sharing.shared_pool, Sharing.final_volumes}
 use Rattle.duedays.specs.DueDays.{due_day}
-use Rattle.ledger.specs.Interest.{body, interest_on}
+use Rattle.ledger.specs.Interest.{body, counted_days, borne}
 use Rattle.closing.specs.Closing.{net_of}
 use Rattle.figures.specs.Starred.{Starred}
 
 pub starred : Starred
 unfolding tax_rate average_price price_change steps adjusted_unit band_of full_month basic_charge band_volume price_in price_of span advance
-    shared_pool final_volumes due_day body interest_on net_of
+    shared_pool final_volumes due_day body counted_days borne net_of
 starred =
     record {
       average = refl;

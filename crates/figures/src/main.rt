@@ -15,10 +15,11 @@ use duedays::limits::TERM;
 use intake::Status;
 use ledger::{Item, Kind};
 use meter::StandingPeriods;
-use samples::{FUEL, MISSED};
+use samples::{FUEL, INTEREST, MISSED};
 use std::io;
 use tariff::{BillingPeriod, Fuel};
 use upgrade::closing_days::with_closing_days;
+use upgrade::parts::with_parts;
 
 // The average is 82,970, 120 below the base; and 84,850, 1,760 above it.
 const LOWER: Fuel = Fuel {
@@ -44,8 +45,11 @@ fn main(rt: HostRuntime) -> io::Result<()> {
     prices_by_tax(&rt)?;
     extremes(&rt)?;
     interest_by_tax(&rt)?;
+    interest_by_parts(&rt)?;
     revision_by_tax(&rt)?;
     closing_days(&rt)?;
+    parts_kept(&rt)?;
+    interest_with_a_share(&rt)?;
     advances(&rt)?;
     half_span(&rt, 5_000)?;
     half_span(&rt, 5_001)?;
@@ -114,20 +118,49 @@ fn interest_by_tax(rt: &impl Print) -> io::Result<()> {
     Ok(())
 }
 
-// The interest of a price item that is settled so many days late.
+// The interest of a price item that is settled in one sum so many days late.
 fn settled_late(amount: u64, obligation: u16, late: u16) -> u64
+    requires some { 1 ≤ amount }
     requires amount { amount ≤ most_price }
     requires days { obligation + term + late ≤ last_call_day }
 {
     let due = obligation + TERM;
-    let item = Item {
-        amount,
-        unpaid: amount,
-        obligation,
-        due,
-        kind: Kind::Price,
-    };
+    let item = Item::made(due, Kind::Price, obligation, amount, amount);
     item.interest_on(due + late)
+}
+
+// 15,650 yen are due on 119, with a body of 14,491. 10,000 paid 10 days late add nothing; 5,000 paid 11 days late add 4,491 x 11; the last
+// 650, 30 days late, are all tax: 49,401 x 274 is 13. In one sum 11 days late it is 14,491 x 11 x 274, 43.
+fn interest_by_parts(rt: &impl Print) -> io::Result<()> {
+    let first = billed().pay(&[], 129, 10_000).account;
+    let second = first.pay(&[], 130, 5_000).account;
+    let last = second.pay(&[], 149, 650).account;
+    show_parts(rt, first, "10000 paid 10 days late")?;
+    show_parts(rt, second, "5000 paid 11 days late")?;
+    show_parts(rt, last, "650 paid 30 days late")?;
+    let in_time = billed().pay(&[], 129, 15_650).account;
+    let late = billed().pay(&[], 130, 15_650).account;
+    show_parts(rt, in_time, "15650 paid 10 days late")?;
+    show_parts(rt, late, "15650 paid 11 days late")
+}
+
+// 80 m3 in 30 days.
+fn billed() -> Account {
+    Account::new()
+        .begin_supply(&[], 60, 0, 4)
+        .account
+        .read_meter(&[], 89, 80, FUEL)
+        .account
+}
+
+// What the oldest item carries, and the interest held.
+fn show_parts(rt: &impl Print, account: Account, name: &str) -> io::Result<()> {
+    let oldest = account.ledger.items[0];
+    let held = account.ledger.held;
+    println!(rt;
+        "{name}: share {}, gathered {}, held {held}",
+        oldest.share, oldest.gathered
+    )
 }
 
 // 80 m3 estimated in 30 days that close on 7,212, at unit 17,991 charged 15,642. The reading of 7,242 shares 62 m3: the estimate's 31 m3
@@ -171,6 +204,31 @@ fn show_closing_days(rt: &impl Print, kept: Account, name: &str) -> io::Result<(
         print!(rt; " {}", estimate.period.closing_day)?;
     }
     println!(rt)
+}
+
+// The oldest item of an account kept from before starts with the body less what is paid, not below 0, and a sum of 0.
+fn parts_kept(rt: &impl Print) -> io::Result<()> {
+    for paid in [1, 10_000, 15_000] {
+        let mut kept = billed().pay(&[], 130, paid).account;
+        kept.ledger.items[0].share = 7;
+        show_parts(rt, with_parts(kept), "kept from before")?;
+    }
+    Ok(())
+}
+
+// Of an interest item handed in with a body share the share falls and gathers as a price's does, and bears nothing.
+fn interest_with_a_share(rt: &impl Print) -> io::Result<()> {
+    let mut account = billed();
+    account.ledger.items[0] = Item {
+        share: 13,
+        obligation: 59,
+        due: 119,
+        ..INTEREST
+    };
+    let first = account.pay(&[], 130, 10).account;
+    let last = first.pay(&[], 130, 3).account;
+    show_parts(rt, first, "10 of 13 interest paid 11 days late")?;
+    show_parts(rt, last, "3 more")
 }
 
 // A period of so many days at these prices, which closes on this day.

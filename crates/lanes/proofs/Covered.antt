@@ -1,12 +1,12 @@
 -- What holds while money covers items, one after another. Assumes nothing.
 use Rattle.common.proofs.Words.{List, ℕ, suc, ◌+◌, ◌-◌, ◌*◌, ◌≤◌, ◌<◌, arith, length, get_or}
 use Rattle.lists.proofs.Every.{every_at}
-use Rattle.ledger.specs.{declared.Item.Item, Limits.most_arisen, Interest.interest_on, Posting.blank, Posting.ItemBounds}
-use Rattle.ledger.proofs.{Interest.interest_most, Cover.Covering, Cover.covering_first, Cover.covering_next}
+use Rattle.ledger.specs.{declared.Item.Item, Limits.most_borne, Interest.interest_on, Posting.blank, Posting.ItemBounds}
+use Rattle.ledger.proofs.{Interest.interest_within, Cover.Covering, Cover.covering_first, Cover.covering_next}
 use Rattle.lanes.specs.OpenItems.{Coverable}
 
 pub record Covered (items : List Item) (day money left arisen i : ℕ) : Type 0 where
-  pub interest : arisen ≤ i * most_arisen
+  pub interest : arisen ≤ i * most_borne
   pub covering : Covering items day money left arisen i
 
 pub covered_first : (items : List Item) (day money : ℕ) → Covered items day money money 0 0
@@ -19,8 +19,8 @@ module _ {items : List Item} {day : ℕ} (w : Coverable items day) (i : ℕ) (h 
   pub item_within : ItemBounds item
   item_within = every_at ItemBounds items i blank h w.bounds
 
-  pub item_interest : interest_on item day ≤ most_arisen
-  item_interest = interest_most item day item_within.price_most w.day_most
+  pub item_interest : interest_on item day ≤ most_borne
+  item_interest = interest_within item day w.day_most item_within
 
   -- the next item is covered
   pub covered_on : {money left arisen : ℕ} → Covered items day money left arisen i → item.unpaid ≤ left

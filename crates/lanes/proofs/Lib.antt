@@ -1,4 +1,3 @@
 -- Laws of open items.
 pub mod Covered
 pub mod Places
-pub mod Labels

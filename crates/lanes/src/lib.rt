@@ -142,7 +142,10 @@ fn store(
     ensures lie { part settled.queue.front (with_posted settled (end - settled.queue.front)) places.new ≡
         items_after (due_day holidays.entry.days.now day) day settled (part settled.queue.front (end - settled.queue.front) places.old) }
 {
-    places[settled.queue.front].unpaid -= settled.paid;
+    let oldest = settled.queue.front;
+    if settled.paid > 0 {
+        places[oldest] = places[oldest].reduced(settled.paid, day);
+    }
     let second = post(places, end, holidays, Kind::Interest, day, settled.held);
     let third = post(places, second, holidays, Kind::Price, day, settled.charge);
     post(places, third, holidays, Kind::Interest, day, settled.arisen);
@@ -168,13 +171,8 @@ fn post(
     if amount.unpaid == 0 {
         return at;
     }
-    places[at] = Item {
-        amount: amount.sum,
-        unpaid: amount.unpaid,
-        obligation: day,
-        due: holidays.due_day(day),
-        kind,
-    };
+    let due = holidays.due_day(day);
+    places[at] = Item::made(due, kind, day, amount.sum, amount.unpaid);
     at + 1
 }
 

@@ -5,10 +5,10 @@ use Rattle.common.proofs.Words.{take-length, take_all, le-leb, lt-leb}
 use Rattle.lists.specs.Every.{Every}
 use Rattle.lists.proofs.{Every.every_map, Sum.total_suc}
 use Rattle.ledger.specs.Settling.{Settlement, reduced, with_interest, settle, settled_count, unpaid_of}
-use Rattle.ledger.specs.{declared.Item.Item, declared.Coverage.Coverage, Limits.last_call_day, Limits.most_arisen, Interest.interest_on}
+use Rattle.ledger.specs.{declared.Item.Item, declared.Coverage.Coverage, Limits.last_call_day, Limits.most_borne, Interest.interest_on}
 use Rattle.ledger.specs.Posting.{coverage, blank, ItemBounds}
 use Rattle.ledger.proofs.Settling.{by_settling, conserved, arisen_most, open_most}
-use Rattle.ledger.proofs.Interest.{interest_most}
+use Rattle.ledger.proofs.Interest.{interest_within}
 
 -- The items before i are settled. What the money left makes of the others, with the interest so far, is what the whole makes of all.
 pub record Covering (items : List Item) (day money left arisen i : ℕ) : Type 0 where
@@ -69,13 +69,13 @@ all_settled day money items e = λ i. record { left = left i; open_items = none 
     left = rw (e, take-length items) (omega (arith, rw none at (conserved day money items)))
 
 -- and where one is not covered.
-pub record Short (items : List Item) (done : Settlement) (cover : Coverage) : Type 0 where
+pub record Short (day : ℕ) (items : List Item) (done : Settlement) (cover : Coverage) : Type 0 where
   pub less : cover.left < (get_or items cover.covered blank).unpaid
   pub stops :
       done ≡
       record {
         left = 0;
-        open_items = reduced (get_or items cover.covered blank) cover.left ∷ drop (suc cover.covered) items;
+        open_items = reduced day (get_or items cover.covered blank) cover.left ∷ drop (suc cover.covered) items;
         arisen = cover.arisen;
       }
 
@@ -84,14 +84,14 @@ cover_of money items done =
     let count = length items - length done.open_items in
     record { covered = count; left = money - unpaid_of (take count items); arisen = done.arisen }
 
-abbrev ShortIn : ℕ → List Item → Settlement → Type 0
-ShortIn money items done = (cover_of money items done).covered < length items → Short items done (cover_of money items done)
+abbrev ShortIn : ℕ → ℕ → List Item → Settlement → Type 0
+ShortIn day money items done = (cover_of money items done).covered < length items → Short day items done (cover_of money items done)
 
 pub not_covered : (day money : ℕ) (items : List Item) → (coverage day money items).covered < length items
-    → Short items (settle day money items) (coverage day money items)
+    → Short day items (settle day money items) (coverage day money items)
 unfolding coverage
 not_covered day =
-    by_settling day ShortIn (λ money h. absurd (not-suc-le-zero h))
+    by_settling day (ShortIn day) (λ money h. absurd (not-suc-le-zero h))
     (λ money item items l ih h.
     let rest = money - item.unpaid in
     let k = settled_count day rest items in
@@ -107,10 +107,10 @@ pub covered_most : (day money : ℕ) (items : List Item) → (coverage day money
 unfolding coverage
 covered_most day money items = omega arith
 
-pub interest_within : (day money : ℕ) (items : List Item) → day ≤ last_call_day → Every ItemBounds items
-    → (coverage day money items).arisen ≤ length items * most_arisen
+pub arisen_within : (day money : ℕ) (items : List Item) → day ≤ last_call_day → Every ItemBounds items
+    → (coverage day money items).arisen ≤ length items * most_borne
 unfolding coverage
-interest_within day money items h w =
-    let Small : Item → Type 0 = λ item. interest_on item day ≤ most_arisen in
-    let each = every_map ItemBounds Small (λ item b. interest_most item day b.price_most h) items w in
-    omega (arith, arisen_most most_arisen day money items each)
+arisen_within day money items h w =
+    let Small : Item → Type 0 = λ item. interest_on item day ≤ most_borne in
+    let each = every_map ItemBounds Small (λ item. interest_within item day h) items w in
+    omega (arith, arisen_most most_borne day money items each)

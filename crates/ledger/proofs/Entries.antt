@@ -70,7 +70,7 @@ module _ (holidays : List ℕ) {e : Entry} {s : Standing} {cover : Coverage} (w 
     abbrev taken_items : List Item
     taken_items =
         let due = due_day holidays day in
-        (less_paid (after_paid q e cover).part rest ++ posted due Interest day (held_asked q e cover) (after_held q e cover).part) ++
+        (less_paid day (after_paid q e cover).part rest ++ posted due Interest day (held_asked q e cover) (after_held q e cover).part) ++
         posted due Price day (charged e) (after_charge q e cover).part
 
     pub taken_known : Known (taken holidays e s) (after_charge q e cover).tally taken_items (held_on q e cover)

@@ -1,5 +1,5 @@
 -- Stores among items that lie in a part of a longer list. Assumes nothing.
-use Rattle.common.proofs.Words.{◌≡◌, refl, sym, ap, ◌∙◌, List, ◌++◌, append-nil, ℕ, zero, suc, ◌+◌, ◌-◌, ◌≤◌, ◌<◌, le_refl, add-zero}
+use Rattle.common.proofs.Words.{◌≡◌, refl, sym, ap, ◌∙◌, List, [], ◌∷◌, ◌++◌, append-nil, ℕ, zero, suc, ◌+◌, ◌-◌, ◌≤◌, ◌<◌, le_refl, add-zero}
 use Rattle.common.proofs.Words.{add-one, arith, ltb, length, get_or, set, take, drop, length-set, length-drop, drop-cons, drop-drop}
 use Rattle.common.proofs.Words.{drop-set-lt, get_or-set_same, get_or-take, get_or-drop, take-suc-set, lt-ltb}
 use lib.Seq.{drop-set-add, take-set-le}
@@ -7,6 +7,7 @@ use Rattle.common.proofs.Cases.{by_test, cond_most}
 use Rattle.lists.proofs.Pad.{drop_take}
 use Rattle.ledger.specs.{declared.Kind.Kind, declared.Item.Item, Settling.reduced, Posting.made, Posting.blank}
 use Rattle.ledger.specs.Numbers.{less_paid, taken_up, posted, part}
+use Rattle.ledger.proofs.Posting.{part_of_none}
 
 -- The item at a place of a part.
 pub at_is : (items : List Item) (front count i : ℕ) → i < count → get_or (part front count items) i blank ≡ get_or items (front + i) blank
@@ -17,17 +18,21 @@ pub part_later : (front count k : ℕ) (items : List Item) → part (front + k) 
 part_later front count k items = sym (drop_take k count (drop front items) ∙ ap (take (count - k)) (drop-drop k front items))
 
 -- The oldest item less what is paid of it.
-pub part_oldest : (front count paid : ℕ) (items : List Item) → front < length items
-    → part front count (set items front (reduced (get_or items front blank) paid)) ≡ less_paid paid (part front count items)
-part_oldest front zero paid items h = refl
-part_oldest front (suc count) paid items h =
-    let item = reduced (get_or items front blank) paid in
+pub part_oldest : (day front count paid : ℕ) (items : List Item) → front < length items
+    → part front count (set items front (reduced day (get_or items front blank) paid)) ≡ less_paid day paid (part front count items)
+part_oldest day front zero paid items h = refl
+part_oldest day front (suc count) paid items h =
+    let item = reduced day (get_or items front blank) paid in
     rw (
       drop-cons (set items front item) front blank (rw (length-set items front item) h),
       get_or-set_same items front item blank h,
       drop-set-lt (suc front) items front item (le_refl (suc front)),
       drop-cons items front blank h,
     )
+
+pub less_none : (day paid : ℕ) (items : List Item) → paid ≡ 0 → less_paid day paid items ≡ items
+less_none day paid [] e = refl
+less_none day paid (item ∷ items) e = rw (e, part_of_none day item)
 
 -- An item is stored behind the last; where nothing of it is unpaid, its place stays free.
 pub part_behind : (due : ℕ) (kind : Kind) (day amount unpaid front count at : ℕ) (items : List Item)

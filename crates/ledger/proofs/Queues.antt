@@ -3,19 +3,20 @@ use Rattle.common.proofs.Words.{◌≡◌, refl, sym, ap, ◌∙◌, cond, List,
 use Rattle.common.proofs.Words.{take, drop, length-append, length-drop, length-take-le, take_all, take-take, eq-eqb, ne_eqb}
 use Rattle.lists.specs.{Pad.pad}
 use Rattle.common.proofs.Cases.{cond_most}
+use Rattle.lists.proofs.Every.{every_at}
 use Rattle.duedays.specs.DueDays.{due_day}
 use Rattle.ledger.specs.Limits.{capacity, most_owed, lane_places, most_end}
-use Rattle.ledger.specs.Posting.{Standing, coverage, blank, stored, standing}
+use Rattle.ledger.specs.Posting.{Standing, coverage, blank, stored, standing, ItemBounds}
 use Rattle.ledger.specs.Entries.{closes, asked, number_of, next, interest_posted, EntryBounds, Within}
 use Rattle.ledger.specs.Numbers.{settled_number, settled_by, NumberBounds, less_paid, items_after, queue_of, with_posted, part, queue_in, ledger_of, lying}
 use Rattle.ledger.specs.Numbers.{Lies}
 use Rattle.ledger.specs.{declared.Item.Item, declared.Ledger.Ledger}
 use Rattle.ledger.specs.{declared.Coverage.Coverage, declared.Entry.Entry, declared.Queue.Queue}
 use Rattle.ledger.specs.{declared.numbers.Settled.Settled, Settling.unpaid_of}
-use Rattle.ledger.proofs.Cover.{covered_most, interest_within}
+use Rattle.ledger.proofs.Cover.{covered_most, arisen_within}
 use Rattle.ledger.proofs.Entries.{taken_known, asked-known, queue_is, number_is}
 use Rattle.ledger.proofs.Places.{at_is, part_later, length_posted, taken_up_most}
-use Rattle.ledger.proofs.{Tallies.Asking, Tallies.money_short, Tallies.paid_within}
+use Rattle.ledger.proofs.{Tallies.Asking, Tallies.money_short, Tallies.paid_within, Tallies.paid_stays}
 use Rattle.ledger.proofs.Within.{owing, owed_most, number_passes}
 
 pub part_count : {items : List Item} {q : Queue} → Lies items q → length (part q.front q.count items) ≡ q.count
@@ -26,9 +27,9 @@ numbers_are : {items : List Item} {q : Queue} → Lies items q → q ≡ queue_o
 numbers_are {items} {q} w = λ i.
     record { front = q.front; count = sym (part_count w) i; owed = w.owed_is i; held = q.held; credit = q.credit }
 
-length_less : (paid : ℕ) (items : List Item) → length (less_paid paid items) ≡ length items
-length_less paid [] = refl
-length_less paid (item ∷ items) = refl
+length_less : (day paid : ℕ) (items : List Item) → length (less_paid day paid items) ≡ length items
+length_less day paid [] = refl
+length_less day paid (item ∷ items) = refl
 
 items_count : (due day : ℕ) (r : Settled) (rest : List Item) → length (items_after due day r rest) ≡ with_posted r (length rest)
 items_count due day r rest = simp (length-append, length_less, length_posted) (omega arith)
@@ -73,7 +74,7 @@ module _ (k : Entering) where
         charge_most = b.charge_most;
         covered_most = covered_within;
         arisen_most =
-            let most = interest_within e.day (q.credit + e.money) stood.open_items b.day_most owes in
+            let most = arisen_within e.day (q.credit + e.money) stood.open_items b.day_most owes in
             rw covers (omega (arith, most, many));
         owed_least = λ l. rw lies.owed_is (money_short asking (rw (part_count lies) l));
       }
@@ -134,6 +135,14 @@ module _ (k : Settling) where
     where
       same : cover.covered < length s.open_items → (get_or items oldest blank).unpaid ≡ (get_or s.open_items cover.covered blank).unpaid
       same l = rw (at_is items q.front q.count cover.covered (rw (part_count lies) at l))
+
+  -- and is within its bounds, where some is paid of it
+  pub oldest_bounds : 0 < r.paid → ItemBounds (get_or items oldest blank)
+  unfolding settled_by
+  oldest_bounds some =
+      let stays = paid_stays (asking k.entering) (rw settled_is at some) in
+      let same = at_is items q.front q.count cover.covered (rw (part_count lies) at stays) in
+      rw same at (every_at ItemBounds s.open_items cover.covered blank stays within.items_within)
 
   -- how many items are open behind it
   count_after : length (asked holidays e s).open_items ≡ with_posted r staying

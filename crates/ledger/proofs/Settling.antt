@@ -1,9 +1,10 @@
 -- Laws of settling, over lists of any length. Assumes nothing.
-use Rattle.common.proofs.Words.{◌≡◌, refl, ◌⊎◌, inl, inr, List, [], ◌∷◌, ◌++◌, ℕ, zero, suc, ◌+◌, ◌-◌, ◌*◌, ◌≤◌, ◌<◌, zero-add, suc-mul}
+use Rattle.common.proofs.Words.{◌≡◌, refl, ap, ◌∙◌, ◌⊎◌, inl, inr, List, [], ◌∷◌, ◌++◌, ℕ, zero, suc, ◌+◌, ◌-◌, ◌*◌, ◌≤◌, ◌<◌, min}
+use Rattle.common.proofs.Words.{add_assoc, zero-add, suc-mul}
 use Rattle.common.proofs.Words.{le_refl, not-suc-le-zero, le_of_suc-le-suc, arith, length, take, le-leb, lt-leb}
 use Rattle.lists.specs.Every.{Every}
 use Rattle.ledger.specs.Settling.{Settlement, reduced, with_interest, settle, settled_count, unpaid_of}
-use Rattle.ledger.specs.{declared.Item.Item, Interest.interest_on}
+use Rattle.ledger.specs.{declared.Item.Item, Interest.gathered_with, Interest.borne, Interest.interest_on}
 use Rattle.common.proofs.Cases.{by_order}
 
 -- Induction over a settling: no item is left, the money covers the next one, or it does not.
@@ -13,7 +14,7 @@ module _ (day : ℕ) (P : ℕ → List Item → Settlement → Type 0)
     → let rest = money - item.unpaid in
     P rest items (settle day rest items) → P money (item ∷ items) (with_interest (interest_on item day) (settle day rest items)))
     (short : (money : ℕ) (item : Item) (items : List Item) → money < item.unpaid
-    → P money (item ∷ items) (record { left = 0; open_items = reduced item money ∷ items; arisen = 0 })) where
+    → P money (item ∷ items) (record { left = 0; open_items = reduced day item money ∷ items; arisen = 0 })) where
   pub by_settling : (money : ℕ) (items : List Item) → P money items (settle day money items)
   by_settling money [] = none money
   by_settling money (item ∷ items) =
@@ -35,58 +36,71 @@ left_or_none day =
     by_settling day (λ money items done. (done.left ≡ 0) ⊎ (done.open_items ≡ [])) (λ money. inr refl)
     (λ money item items h ih. ih) (λ money item items h. inl refl)
 
--- A part payment does not change the interest.
-pub interest_reduced : (item : Item) (money day : ℕ) → interest_on (reduced item money) day ≡ interest_on item day
-unfolding interest_on
-interest_reduced item money day = refl
+-- Two parts paid on one day are one part,
+pub reduced_twice : (day first more : ℕ) (item : Item) → reduced day (reduced day item first) more ≡ reduced day item (first + more)
+reduced_twice day first more item = λ i.
+    record {
+      amount = item.amount;
+      unpaid = unpaid i;
+      share = share i;
+      gathered = gathered i;
+      obligation = item.obligation;
+      due = item.due;
+      kind = item.kind;
+    }
+  where
+    unpaid : item.unpaid - first - more ≡ item.unpaid - (first + more)
+    unpaid = omega arith
 
--- Settling twice is settling once. What the first settling leaves, with more money and more items behind, comes to what the whole
--- money makes of the whole list; on one day the interest adds up.
-module _ (more : ℕ) (behind : List Item) where
-  abbrev then : ℕ → ℕ → List Item → Settlement
-  then day money items = settle day (money + more) (items ++ behind)
+    share : item.share - first - more ≡ item.share - (first + more)
+    share = omega arith
 
-  pub record Once (day later first : ℕ) (items : List Item) (done : Settlement) : Type 0 where
-    pub same_left : (then later done.left done.open_items).left ≡ (then later first items).left
-    pub same_open : (then later done.left done.open_items).open_items ≡ (then later first items).open_items
-    pub one_day : done.arisen + (then day done.left done.open_items).arisen ≡ (then day first items).arisen
+    both : min item.share (first + more) ≡ min item.share first + min (item.share - first) more
+    both = omega arith
 
-  pub twice_once : (day later first : ℕ) (items : List Item) → Once day later first items (settle day first items)
-  twice_once day later =
-      by_settling day (Once day later) (λ first. record { same_left = refl; same_open = refl; one_day = omega arith })
+    gathered : gathered_with day (reduced day item first) more ≡ gathered_with day item (first + more)
+    gathered = rw both (omega arith)
+
+-- and a part paid before, on the same day, does not change the interest.
+interest_reduced : (day money : ℕ) (item : Item) → money ≤ item.unpaid → interest_on (reduced day item money) day ≡ interest_on item day
+interest_reduced day money item h =
+    let all : money + (item.unpaid - money) ≡ item.unpaid = omega arith in
+    ap (λ (x : Item). borne item.kind x.gathered)
+    (reduced_twice day money (item.unpaid - money) item ∙ ap (reduced day item) all)
+
+-- Settling twice on one day is settling once: what the first settling leaves, with more money and more items behind, comes to what the
+-- whole money makes of the whole list, and the interest adds up.
+module _ (day more : ℕ) (behind : List Item) where
+  abbrev then : ℕ → List Item → Settlement
+  then money items = settle day (money + more) (items ++ behind)
+
+  abbrev Once : ℕ → List Item → Settlement → Type 0
+  Once first items done = with_interest done.arisen (then done.left done.open_items) ≡ then first items
+
+  pub twice_once : (first : ℕ) (items : List Item) → Once first items (settle day first items)
+  twice_once =
+      by_settling day Once (λ first. rw (zero-add (then first []).arisen))
       (λ first item items h ih.
       let all = le-leb item.unpaid (first + more) (omega arith) in
       let less : first + more - item.unpaid ≡ first - item.unpaid + more = omega arith in
-      record {
-        same_left = rw (all, less) ih.same_left;
-        same_open = rw (all, less) ih.same_open;
-        one_day = rw (all, less) (omega (arith, ih.one_day));
-      })
+      rw (all, less, add_assoc (interest_on item day)) (ap (with_interest (interest_on item day)) ih))
       (λ first item items h.
       by_order more (item.unpaid - first)
       (λ l.
       let part = lt-leb (item.unpaid - first) more l in
       let all = lt-leb item.unpaid (first + more) (omega arith) in
-      let less : item.unpaid - first - more ≡ item.unpaid - (first + more) = omega arith in
-      record {
-        same_left = rw (zero-add more, part, all);
-        same_open = rw (zero-add more, part, all, less);
-        one_day = rw (zero-add more, part, all);
-      })
+      rw (zero-add more, part, all, reduced_twice day first more item))
       (λ l.
       let part = le-leb (item.unpaid - first) more l in
       let all = le-leb item.unpaid (first + more) (omega arith) in
       let less : more - (item.unpaid - first) ≡ first + more - item.unpaid = omega arith in
-      record {
-        same_left = rw (zero-add more, part, all, less);
-        same_open = rw (zero-add more, part, all, less);
-        one_day = rw (zero-add more, part, all, less, interest_reduced item first day) (omega arith);
-      }))
+      rw (zero-add more, part, all, less, interest_reduced day first item (omega arith))
+      (rw (zero-add (interest_on item day + (settle day (first + more - item.unpaid) (items ++ behind)).arisen)))))
 
--- What stays open was there before, and less of it is unpaid.
-module _ (P : Item → Type 0) (kept : (item : Item) (money : ℕ) → P item → money < item.unpaid → P (reduced item money)) where
-  pub settle_keeps : (day money : ℕ) (items : List Item) → Every P items → Every P (settle day money items).open_items
-  settle_keeps day =
+-- What stays open was there before, and a part of it is paid.
+module _ (P : Item → Type 0) (day : ℕ) (kept : (item : Item) (money : ℕ) → P item → money < item.unpaid → P (reduced day item money)) where
+  pub settle_keeps : (money : ℕ) (items : List Item) → Every P items → Every P (settle day money items).open_items
+  settle_keeps =
       by_settling day (λ money items done. Every P items → Every P done.open_items) (λ money w. tt)
       (λ money item items h ih w. ih w.1) (λ money item items h w. (kept item money w.0 h, w.1))
 
@@ -127,14 +141,3 @@ reached_when_settled day =
     (λ money i l. omega arith)
     (λ money item items h ih. elim [ zero ↦ λ l. omega arith | suc i ↦ λ l. omega (arith, ih i (omega arith)) ])
     (λ money item items h i l. omega arith)
-
--- The day bears on the interest alone.
-pub day_left : (day later money : ℕ) (items : List Item) → (settle day money items).left ≡ (settle later money items).left
-day_left day later =
-    by_settling day (λ money items done. done.left ≡ (settle later money items).left) (λ money. refl)
-    (λ money item items h ih. rw (le-leb item.unpaid money h) ih) (λ money item items h. rw (lt-leb item.unpaid money h))
-
-pub day_open : (day later money : ℕ) (items : List Item) → (settle day money items).open_items ≡ (settle later money items).open_items
-day_open day later =
-    by_settling day (λ money items done. done.open_items ≡ (settle later money items).open_items) (λ money. refl)
-    (λ money item items h ih. rw (le-leb item.unpaid money h) ih) (λ money item items h. rw (lt-leb item.unpaid money h))

@@ -6,7 +6,7 @@ use Rattle.common.proofs.Cases.{by_order}
 use Rattle.lists.proofs.Sum.{total_append}
 use Rattle.duedays.specs.DueDays.{due_day}
 use Rattle.ledger.specs.Settling.{Settlement, reduced, settle, unpaid_of}
-use Rattle.ledger.specs.Posting.{Standing, new_item, entered, post, paid, settled_with, coverage, blank, Ready}
+use Rattle.ledger.specs.Posting.{Standing, made, entered, post, paid, settled_with, coverage, blank, Ready}
 use Rattle.ledger.specs.Numbers.{Step, posting, paying, less_paid, posted}
 use Rattle.ledger.specs.{declared.Kind.Kind, declared.Item.Item, declared.Coverage.Coverage, declared.Entry.Entry}
 use Rattle.ledger.specs.{declared.numbers.Tally.Tally}
@@ -54,7 +54,7 @@ module _ (holidays : List ℕ) (kind : Kind) (day amount : ℕ) (x : Standing) (
       short h =
           let is = post_short holidays kind day amount x ready h in
           let part = amount - x.credit in
-          let one = reduced (new_item holidays kind day amount) x.credit ∷ [] in
+          let one = made (due_day holidays day) kind day amount part ∷ [] in
           let owes = total_append (λ (item : Item). item.unpaid) x.open_items one in
           rw (lt-leb amount x.credit h, lt-ltb 0 part (omega arith), is)
           (record {
@@ -96,7 +96,7 @@ module _ {e : Entry} {s : Standing} {cover : Coverage} (w : Asking e s cover) wh
   abbrev paying_step : Step
   paying_step = paying (tally_of s) money cover
 
-  short_of : covered < length opens → Short opens done cover
+  short_of : covered < length opens → Short e.day opens done cover
   short_of h = rw w.covers (not_covered e.day money opens (rw w.covers at h))
 
   pub money_short : covered < length opens → money ≤ unpaid_of opens
@@ -110,11 +110,21 @@ module _ {e : Entry} {s : Standing} {cover : Coverage} (w : Asking e s cover) wh
       (λ h. rw (ne_eqb (length opens - covered) 0 (λ z. omega arith), is h) (le_of_lt (short_of h).less))
       (λ h. rw (eq-eqb (length opens - covered) 0 (omega arith)) (omega arith))
 
+  -- and some of it only where one stays
+  pub paid_stays : 0 < paying_step.part → covered < length opens
+  unfolding paying
+  paid_stays =
+      by_order covered (length opens) (λ h some. h)
+      (λ h some. absurd (never (rw (eq-eqb (length opens - covered) 0 (omega arith)) at some)))
+    where
+      never : 0 < 0 → ⊥
+      never l = omega arith
+
   module _ (held : ℕ) where
     abbrev PaidKnown : Type 0
     PaidKnown =
         Known (paid e.day e.money (with_held held s)) paying_step.tally
-        (less_paid paying_step.part (drop covered opens)) (held + cover.arisen)
+        (less_paid e.day paying_step.part (drop covered opens)) (held + cover.arisen)
 
     after : Ready (paid e.day e.money (with_held held s))
     unfolding paid
@@ -140,7 +150,7 @@ module _ {e : Entry} {s : Standing} {cover : Coverage} (w : Asking e s cover) wh
         short : covered < length opens → PaidKnown
         short h =
             let behind = drop (suc covered) opens in
-            let next = reduced (get_or opens covered blank) cover.left in
+            let next = reduced e.day (get_or opens covered blank) cover.left in
             let stops = (short_of h).stops in
             let is = settled stops in
             let count : suc (length behind) ≡ length opens - covered = rw (length-drop (suc covered) opens) (omega arith) in

@@ -2,7 +2,7 @@
 use Rattle.std.specs.Prelude.{List, [], ◌∷◌, ◌++◌, ℕ, ◌+◌, ◌-◌, ◌*◌, ◌≤◌, ◌<◌}
 use mathlib.Core.{Path.◌≡◌, Bool.cond}
 use lib.{Dec.leb, Dec.ltb, Dec.eqb, ListN.length, ListN.take, ListN.drop}
-use Rattle.ledger.specs.Limits.{capacity, most_price, most_interest, most_money, most_credit, lane_places}
+use Rattle.ledger.specs.Limits.{capacity, most_price, most_interest, most_borne, most_money, most_credit, lane_places}
 use Rattle.ledger.specs.{declared.Kind.Kind, declared.Kind.TheVariants.Interest, declared.Kind.TheVariants.Price}
 use Rattle.ledger.specs.{declared.Item.Item, declared.Ledger.Ledger, declared.Coverage.Coverage, Settling.reduced, Settling.unpaid_of}
 use Rattle.ledger.specs.{Posting.Standing, Posting.made, Posting.standing, declared.Entry.Entry, declared.Queue.Queue}
@@ -90,13 +90,13 @@ module _ (q : Queue) (e : Entry) (cover : Coverage) where
     pub money_most : e.money ≤ most_money
     pub charge_most : charged e ≤ most_price
     pub covered_most : cover.covered ≤ q.count
-    pub arisen_most : cover.arisen ≤ most_interest
+    pub arisen_most : cover.arisen ≤ capacity * most_borne
     pub owed_least : cover.covered < q.count → q.credit + e.money ≤ q.owed
 
 -- The items behind it: the oldest that stays less what is paid of it, then each posted item of which something is unpaid.
-abbrev pub less_paid : ℕ → List Item → List Item
-less_paid part [] = []
-less_paid part (item ∷ items) = reduced item part ∷ items
+abbrev pub less_paid : ℕ → ℕ → List Item → List Item
+less_paid day part [] = []
+less_paid day part (item ∷ items) = reduced day item part ∷ items
 
 unfoldable pub taken_up : ℕ → ℕ
 taken_up unpaid = cond (ltb 0 unpaid) 1 0
@@ -106,7 +106,7 @@ posted due kind day amount unpaid = cond (ltb 0 unpaid) (made due kind day amoun
 
 abbrev pub items_after : ℕ → ℕ → Settled → List Item → List Item
 items_after due day r rest =
-    ((less_paid r.paid rest ++ posted due Interest day r.held.sum r.held.unpaid) ++
+    ((less_paid day r.paid rest ++ posted due Interest day r.held.sum r.held.unpaid) ++
     posted due Price day r.charge.sum r.charge.unpaid) ++
     posted due Interest day r.arisen.sum r.arisen.unpaid
 

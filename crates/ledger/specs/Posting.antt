@@ -8,8 +8,8 @@ use Rattle.ledger.specs.declared.Kind.TheVariants.{Interest, Price}
 use Rattle.ledger.specs.declared.Item.{Item}
 use Rattle.ledger.specs.declared.Ledger.{Ledger}
 use Rattle.ledger.specs.declared.Coverage.{Coverage}
-use Rattle.ledger.specs.Limits.{capacity, most_price, most_interest, most_money}
-use Rattle.ledger.specs.Interest.{is_price}
+use Rattle.ledger.specs.Limits.{capacity, most_price, most_interest, most_gathered, most_money}
+use Rattle.ledger.specs.Interest.{is_price, body_of}
 use Rattle.ledger.specs.Settling.{Settlement, settle, settled_count, unpaid_of}
 
 -- What stands on a ledger: the open items, oldest first, the credit balance, and interest held until the next closing.
@@ -18,9 +18,19 @@ pub record Standing : Type 0 where
   pub credit : ℕ
   pub held : ℕ
 
--- An item of a day and a due day, with what is unpaid of it; a new one, all of it, and its due day goes by the list of closed days.
+-- An item of a day and a due day, with what is unpaid of it, nothing paid late: of its body what is paid is taken off, not below 0.
+-- Of a new one all is unpaid, and its due day goes by the list of closed days.
 abbrev pub made : ℕ → Kind → ℕ → ℕ → ℕ → Item
-made due kind day amount unpaid = record { amount = amount; unpaid = unpaid; obligation = day; due = due; kind = kind }
+made due kind day amount unpaid =
+    record {
+      amount = amount;
+      unpaid = unpaid;
+      share = body_of kind amount day - (amount - unpaid);
+      gathered = 0;
+      obligation = day;
+      due = due;
+      kind = kind;
+    }
 
 abbrev pub new_item : List ℕ → Kind → ℕ → ℕ → Item
 new_item holidays kind day amount = made (due_day holidays day) kind day amount amount
@@ -63,7 +73,7 @@ held_posted holidays day s = post day 0 (entered holidays Interest day s.held) (
 
 -- What a place of the array without an item holds.
 abbrev pub blank : Item
-blank = record { amount = 0; unpaid = 0; obligation = 0; due = 0; kind = Interest }
+blank = record { amount = 0; unpaid = 0; share = 0; gathered = 0; obligation = 0; due = 0; kind = Interest }
 
 -- What stands on a ledger as the account holds it.
 abbrev pub standing : Ledger → Standing
@@ -91,7 +101,9 @@ coverage day money items =
 pub record ItemBounds (item : Item) : Type 0 where
   pub unpaid_least : 1 ≤ item.unpaid
   pub unpaid_most : item.unpaid ≤ most_interest
-  pub price_most : is_price item.kind ≡ true → item.amount ≤ most_price
+  pub share_most : item.share ≤ item.unpaid
+  pub gathered_most : item.gathered ≤ most_gathered
+  pub price_most : is_price item.kind ≡ true → item.share ≤ most_price
 
 pub record OpenBounds (ledger : Ledger) : Type 0 where
   pub count_most : ledger.count ≤ capacity

@@ -1,9 +1,9 @@
--- Settling, the oldest item first: article 28.
+-- Settling part by part, the oldest item first: article 28.
 use mathlib.Core.{Bool.cond, List.List, List.[], List.◌∷◌}
 use Rattle.std.specs.Prelude.{ℕ, ◌+◌, ◌-◌}
 use lib.{Dec.leb, ListN.length}
 use Rattle.lists.specs.Sum.{total}
-use Rattle.ledger.specs.{declared.Item.Item, Interest.interest_on}
+use Rattle.ledger.specs.{declared.Item.Item, Interest.gathered_with, Interest.interest_on}
 
 -- What settling comes to: the money left, the items still open and the interest that arose.
 pub record Settlement : Type 0 where
@@ -11,9 +11,18 @@ pub record Settlement : Type 0 where
   pub open_items : List Item
   pub arisen : ℕ
 
-abbrev pub reduced : Item → ℕ → Item
-reduced item money =
-    record { amount = item.amount; unpaid = item.unpaid - money; obligation = item.obligation; due = item.due; kind = item.kind }
+-- What a part paid on a day leaves of an item: less is unpaid of it, and of its body, not below 0.
+abbrev pub reduced : ℕ → Item → ℕ → Item
+reduced day item money =
+    record {
+      amount = item.amount;
+      unpaid = item.unpaid - money;
+      share = item.share - money;
+      gathered = gathered_with day item money;
+      obligation = item.obligation;
+      due = item.due;
+      kind = item.kind;
+    }
 
 abbrev pub with_interest : ℕ → Settlement → Settlement
 with_interest interest s = record { left = s.left; open_items = s.open_items; arisen = interest + s.arisen }
@@ -25,7 +34,7 @@ settle day money [] = record { left = money; open_items = []; arisen = 0 }
 settle day money (item ∷ items) =
     cond (leb item.unpaid money)
     (with_interest (interest_on item day) (settle day (money - item.unpaid) items))
-    (record { left = 0; open_items = reduced item money ∷ items; arisen = 0 })
+    (record { left = 0; open_items = reduced day item money ∷ items; arisen = 0 })
 
 abbrev pub unpaid_of : List Item → ℕ
 unpaid_of = total (λ item. item.unpaid)

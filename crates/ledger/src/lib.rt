@@ -1,11 +1,11 @@
 // The ledger of an account: the queue of open items, settling, posting and late interest. Articles 20(1), 27 and 28 of the supply terms.
 #![tactic(auto)]
 
-ghost use Rattle.std.specs.Prelude.{◌≡◌, true, [], ◌+◌, ◌≤◌};
-ghost use Rattle.ledger.specs.Interest.{is_price, body, interest_on};
-ghost use Rattle.ledger.specs.Settling.{unpaid_of};
-ghost use Rattle.ledger.specs.Posting.{stored, standing, charge_of, credit_of, OpenBounds, NetBounds};
-ghost use Rattle.ledger.specs.Limits.{most_price, lane_places};
+ghost use Rattle.std.specs.Prelude.{◌≡◌, [], ◌+◌, ◌≤◌};
+ghost use Rattle.ledger.specs.Interest.{body, body_of, counted_days, gathered_with, interest_on};
+ghost use Rattle.ledger.specs.Settling.{reduced, unpaid_of};
+ghost use Rattle.ledger.specs.Posting.{made, stored, standing, charge_of, credit_of, ItemBounds, OpenBounds, NetBounds};
+ghost use Rattle.ledger.specs.Limits.{last_call_day, lane_places};
 ghost use Rattle.ledger.specs.Numbers.{queue_in, ledger_of};
 
 pub mod limits;
@@ -25,6 +25,10 @@ pub enum Kind {
 pub struct Item {
     pub amount: u64,
     pub unpaid: u64,
+    // what of its body is still unpaid
+    pub share: u64,
+    // body yen × late days of the parts paid so far
+    pub gathered: u64,
     pub obligation: u16,
     pub due: u16,
     pub kind: Kind,
@@ -128,26 +132,72 @@ impl Queue {
 }
 
 impl Item {
-    // The interest that it brings where it is settled on a day: 27.
-    #[tactic(auto, using(crate::proofs::Interest::body_most), unfolding(crate::specs::Interest::interest_on))]
+    // An item of which so much is unpaid, and nothing was paid late.
+    pub fn made(due: u16, kind: Kind, obligation: u16, amount: u64, unpaid: u64) -> Item
+        ensures { result ≡ made due kind obligation amount unpaid }
+    {
+        Item {
+            amount,
+            unpaid,
+            share: body_of(kind, amount, obligation).saturating_sub(amount.saturating_sub(unpaid)),
+            gathered: 0,
+            obligation,
+            due,
+            kind,
+        }
+    }
+
+    // What a part paid on a day leaves of it: 28.
+    pub fn reduced(self, money: u64, day: u16) -> Item
+        requires part { money ≤ self.unpaid }
+        requires bounds { ItemBounds self }
+        ensures { result ≡ reduced day self money }
+    {
+        Item {
+            unpaid: self.unpaid - money,
+            share: self.share.saturating_sub(money),
+            gathered: self.gathered_with(money, day),
+            ..self
+        }
+    }
+
+    // The interest that it brings where it is settled on a day: 27. Most are paid in time.
+    #[tactic(auto, using(crate::proofs::Interest::sum_most))]
     pub fn interest_on(self, day: u16) -> u64
-        requires { is_price self.kind ≡ true → self.amount ≤ most_price }
+        requires called { day ≤ last_call_day }
+        requires bounds { ItemBounds self }
         ensures { result ≡ interest_on self day }
     {
         let kind = self.kind;
         match kind {
             Kind::Interest => 0,
             Kind::Price => {
-                let late = day.saturating_sub(self.due);
-                if late <= DAYS_OF_GRACE {
+                let gathered = self.gathered_with(self.share, day);
+                if gathered == 0 {
                     0
                 } else {
-                    body_of(self.amount, self.obligation) * u64::from(late) * MILLIONTHS_A_DAY
-                        / 1_000_000
+                    gathered * MILLIONTHS_A_DAY / 1_000_000
                 }
             }
         }
     }
+
+    // What it has gathered of body yen × late days, with a part paid on a day.
+    fn gathered_with(self, money: u64, day: u16) -> u64
+        requires { ItemBounds self }
+        ensures { result ≡ gathered_with day self money }
+    {
+        self.gathered + self.share.min(money) * u64::from(counted_days(self.due, day))
+    }
+}
+
+// The late days of a payment that count: 27(1).
+#[tactic(auto, unfolding(crate::specs::Interest::counted_days))]
+fn counted_days(due: u16, day: u16) -> u16
+    ensures { result ≡ counted_days due day }
+{
+    let late = day.saturating_sub(due);
+    if late > DAYS_OF_GRACE { late } else { 0 }
 }
 
 // The part of a net that is charged.
@@ -165,12 +215,24 @@ pub fn credit_of(net: i32) -> u64
     u64::from(net.min(0).unsigned_abs())
 }
 
-// The amount of a price without the tax in it, at the rate of its obligation day: 27(2).
-#[tactic(auto, using(crate::proofs::Interest::tax_most, tax::proofs::Rate::rate_most), unfolding(crate::specs::Interest::body))]
-fn body_of(amount: u64, obligation: u16) -> u64
-    requires { amount ≤ most_price }
+// The amount of a price without the tax in it, at the rate of its obligation day: 27(2). Interest has no body.
+fn body_of(kind: Kind, amount: u64, obligation: u16) -> u64
+    ensures { result ≡ body_of kind amount obligation }
+{
+    match kind {
+        Kind::Interest => 0,
+        Kind::Price => body(amount, obligation),
+    }
+}
+
+// 8/108 and 10/110 of any amount, in lowest terms, so that no product overflows.
+#[tactic(auto, using(crate::proofs::Interest::body_at_eight, crate::proofs::Interest::body_at_ten))]
+fn body(amount: u64, obligation: u16) -> u64
     ensures { result ≡ body amount obligation }
 {
-    let rate = u64::from(tax_rate(obligation));
-    amount - amount * rate / (100 + rate)
+    if tax_rate(obligation) == 8 {
+        amount - (amount / 27 * 2 + amount % 27 * 2 / 27)
+    } else {
+        amount - amount / 11
+    }
 }

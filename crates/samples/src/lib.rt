@@ -38,10 +38,12 @@ pub const MISSED: Estimate = Estimate {
     charged: 6_650,
 };
 
-// Its price, with 1,000 yen paid.
+// Its price, with 1,000 yen paid in time: so much less of its body of 6,158.
 pub const OPEN: Item = Item {
     amount: 6_650,
     unpaid: 5_650,
+    share: 5_158,
+    gathered: 0,
     obligation: 59,
     due: 89,
     kind: Kind::Price,
@@ -50,6 +52,8 @@ pub const OPEN: Item = Item {
 pub const INTEREST: Item = Item {
     amount: 13,
     unpaid: 13,
+    share: 0,
+    gathered: 0,
     obligation: 100,
     due: 130,
     kind: Kind::Interest,

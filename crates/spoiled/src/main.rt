@@ -20,6 +20,7 @@ fn main(rt: HostRuntime) -> io::Result<()> {
     estimate_amounts(&rt)?;
     estimate_counts(&rt)?;
     item_amounts(&rt)?;
+    item_parts(&rt)?;
     item_days(&rt)?;
     item_counts(&rt)?;
     balances(&rt)?;
@@ -178,6 +179,42 @@ fn item_amounts(rt: &impl Print) -> io::Result<()> {
     )
 }
 
+// The first item is due on day 89: a yen of its body, paid on day 100, gathers 11.
+fn item_parts(rt: &impl Print) -> io::Result<()> {
+    show(rt, with_price_parts(5_650, 0), "5650 of the body unpaid")?;
+    show(rt, with_price_parts(5_651, 0), "5651 of the body unpaid")?;
+    show(
+        rt,
+        with_interest_share(13),
+        "interest item of 13 with a body share of 13",
+    )?;
+    show(
+        rt,
+        with_interest_share(14),
+        "interest item of 13 with a body share of 14",
+    )?;
+    show(
+        rt,
+        with_price_parts(5_158, 100_000_000_000_000),
+        "100000000000000 gathered",
+    )?;
+    show(
+        rt,
+        with_price_parts(5_158, 100_000_000_000_001),
+        "100000000000001 gathered",
+    )?;
+    changed(
+        rt,
+        |account| account.ledger.items[0].gathered = 99_999_999_999_989,
+        "99999999999989 gathered, 11 more by the payment",
+    )?;
+    changed(
+        rt,
+        |account| account.ledger.items[0].gathered = 99_999_999_999_990,
+        "99999999999990 gathered, 11 more by the payment",
+    )
+}
+
 fn item_days(rt: &impl Print) -> io::Result<()> {
     show(
         rt,
@@ -264,12 +301,26 @@ fn counted_estimates(count: usize) -> Account {
     })
 }
 
+// Nothing of its body is unpaid.
 fn with_price(amount: u64, unpaid: u64) -> Account {
     with_item(Item {
         amount,
         unpaid,
+        share: 0,
         ..OPEN
     })
+}
+
+fn with_price_parts(share: u64, gathered: u64) -> Account {
+    with_item(Item {
+        share,
+        gathered,
+        ..OPEN
+    })
+}
+
+fn with_interest_share(share: u64) -> Account {
+    with_item(Item { share, ..INTEREST })
 }
 
 fn with_interest(amount: u64) -> Account {
@@ -293,6 +344,7 @@ fn with_item(second: Item) -> Account {
 fn counted_items(count: usize) -> Account {
     let mut items = [OPEN; 72];
     items[71].unpaid = 0;
+    items[71].share = 0;
     with_ledger(count, items, 0)
 }
 

@@ -115,6 +115,16 @@ fn items(rt: &impl Print) -> io::Result<()> {
     )?;
     changed(
         rt,
+        |new| new.ledger.items[36].share = 1,
+        "new, 1 yen of a body in the 37th place of the items",
+    )?;
+    changed(
+        rt,
+        |new| new.ledger.items[37].gathered = 1,
+        "new, 1 gathered in the 38th place of the items",
+    )?;
+    changed(
+        rt,
         |new| new.ledger.items[70].obligation = 1,
         "new, obligation day 1 in the 71st place of the items",
     )?;

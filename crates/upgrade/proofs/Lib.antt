@@ -3,3 +3,4 @@ pub mod Places
 pub mod ClosingDays
 pub mod Turning
 pub mod Reached
+pub mod Started

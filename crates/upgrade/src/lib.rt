@@ -2,3 +2,4 @@
 #![tactic(auto)]
 
 pub mod closing_days;
+pub mod parts;

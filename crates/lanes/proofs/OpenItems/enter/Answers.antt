@@ -4,8 +4,8 @@ use Rattle.common.proofs.Refusals.{number_some}
 use Rattle.ledger.specs.Entries.{asked, number_of, interest_posted}
 use Rattle.ledger.specs.Numbers.{settled_number, settled_by}
 use Rattle.ledger.specs.declared.numbers.Settled.{Settled}
-use Rattle.ledger.proofs.Queues.{Entering, Settling, settle_bounds, refusal_is, covered_within, oldest_within, after_stands, after_lies}
-use Rattle.ledger.proofs.Queues.{few_after, front_is, interest_is, interest_fits, next_asked, next_same}
+use Rattle.ledger.proofs.Queues.{Entering, Settling, settle_bounds, refusal_is, covered_within, oldest_within, oldest_bounds}
+use Rattle.ledger.proofs.Queues.{after_stands, after_lies, few_after, front_is, interest_is, interest_fits, next_asked, next_same}
 use Rattle.lanes.proofs.Places.{between}
 use Rattle.lanes.proofs.OpenItems.enter.Goals as goal
 use Rattle.lanes.proofs.OpenItems.enter.Goals.{After-cover-cover}
@@ -51,7 +51,12 @@ pub store-requires-clause-storable : goal.store-requires-clause-storable
 store-requires-clause-storable c =
     let k = settling (goal.at.store-requires-clause-storable c).After-cover-cover c.in_ok-settled.ensures.settled in
     rw (front_is k, c.end-end.ensures)
-    (record { in_order = omega (arith, covered_within k.entering); room = c.self.invariant.room; owes = oldest_within k })
+    (record {
+      in_order = omega (arith, covered_within k.entering);
+      room = c.self.invariant.room;
+      owes = oldest_within k;
+      bounds = oldest_bounds k;
+    })
 
 pub make_room-self-inside-requires-clause-lies : goal.make_room-self-inside-requires-clause-lies
 make_room-self-inside-requires-clause-lies c =
