@@ -10,6 +10,7 @@ const MOST_DAYS: u32 = 36_495;
 const MOST_CHARGE: u64 = 100_000_000;
 const MOST_PRICE_ITEM: u64 = 1_000_000_000;
 const MOST_INTEREST: u64 = 1_000_000_000_000;
+const MOST_GATHERED: u64 = 100_000_000_000_000;
 
 #[derive(Clone, Copy, Debug, PartialEq, Eq)]
 pub enum Status {
@@ -127,6 +128,8 @@ fn item_whole(item: &Item, latest: u32) -> bool {
     };
     (1..=item.amount).contains(&item.unpaid)
         && item.amount <= most
+        && item.share <= item.unpaid
+        && item.gathered <= MOST_GATHERED
         && item.obligation <= latest
         && item.due <= LAST_DAY
 }

@@ -1,13 +1,13 @@
-//! One life checked: outputs byte for byte, both sums and wholeness after
-//! every line. Counts what was reached.
+//! One life checked: outputs byte for byte; both sums, wholeness and what holds
+//! of body shares and gathered sums after every line. Counts what was reached.
 
 use crate::account::{Account, Estimate, Status};
-use crate::book::Book;
+use crate::book::{Book, Part};
 use crate::calendar::{LAST_CALL_DAY, LAST_DAY};
 use crate::calls::{self, Answer, Call, What};
 use crate::closed::{self, Closed, MOST_CLOSED, TERM};
 use crate::frames;
-use crate::ledger::{interest, Item, Kind, MOST_CREDIT, MOST_ITEMS};
+use crate::ledger::{body, interest, Item, Kind, FREE_DAYS, MOST_CREDIT, MOST_ITEMS};
 use crate::meter::{self, MOST_POOL};
 use crate::notices;
 use crate::rule::Rule;
@@ -36,13 +36,15 @@ impl Other for Itself {
 /// The numbers that a line can reach.
 pub const REACHABLE: [u8; 16] = [0, 1, 2, 3, 4, 5, 6, 7, 8, 9, 10, 11, 12, 13, 14, 40];
 
-/// A call with the closed days and the account before and after it.
+/// A call with the closed days, the account before and after it, and the parts
+/// of price items that it paid.
 struct Step<'a> {
     closed: &'a [u16],
     before: &'a Account,
     call: &'a Call,
     after: &'a Account,
     answer: &'a Answer,
+    parts: &'a [Part],
 }
 
 type Edge = fn(&Step) -> bool;
@@ -50,6 +52,10 @@ type Edge = fn(&Step) -> bool;
 /// The edge that a third of the lives of a full run must reach. A life reaches
 /// it once at most.
 pub const ACROSS: &str = "lives across day 7,213 with an estimate standing";
+
+/// The edge that a full run must reach so many times.
+pub const IN_PARTS: &str = "item settled in three or more parts";
+pub const LEAST_IN_PARTS: u64 = 20_000;
 
 /// Lives of a full run.
 pub const FULL: u64 = 100_000;
@@ -75,7 +81,10 @@ pub const EDGES: [(&str, EdgeTest); 39] = [
         "interest posted by a closing",
         EdgeTest(|s| s.answer.interest > 0 && !s.answer.finals.is_empty()),
     ),
-    ("interest posted by a payment", EdgeTest(|s| s.answer.interest > 0 && is_payment(s.call))),
+    (
+        "interest posted by a payment",
+        EdgeTest(|s| s.answer.interest > 0 && calls::is_payment(s.call)),
+    ),
     (
         "interest posted by 0a",
         EdgeTest(|s| s.answer.interest > 0 && s.call.what == What::CancelStopped),
@@ -126,21 +135,43 @@ pub const EDGES: [(&str, EdgeTest); 39] = [
     ),
     (
         "interest at 8/108 settled from 7,213 on",
-        EdgeTest(|s| s.call.day >= RISE && interest_of(s, |item| item.obligation < RISE)),
+        EdgeTest(|s| s.call.day >= RISE && interest_of(s, |day| day < RISE)),
     ),
-    ("interest at 10/110", EdgeTest(|s| interest_of(s, |item| item.obligation >= RISE))),
-    (
-        "interest, obligation day 7,212",
-        EdgeTest(|s| interest_of(s, |item| item.obligation == RISE - 1)),
-    ),
-    (
-        "interest, obligation day 7,213",
-        EdgeTest(|s| interest_of(s, |item| item.obligation == RISE)),
-    ),
+    ("interest at 10/110", EdgeTest(|s| interest_of(s, |day| day >= RISE))),
+    ("interest, obligation day 7,212", EdgeTest(|s| interest_of(s, |day| day == RISE - 1))),
+    ("interest, obligation day 7,213", EdgeTest(|s| interest_of(s, |day| day == RISE))),
 ];
 
 /// A named test of a step.
 pub struct EdgeTest(Edge);
+
+/// Edges that parts of price items reach, each part counted.
+pub const PART_EDGES: [(&str, PartTest); 16] = [
+    (IN_PARTS, PartTest(|_, p| p.settles() && p.bill.parts >= 3)),
+    ("part 10 days late", PartTest(|_, p| is_part(p) && p.late == FREE_DAYS)),
+    ("part 11 days late", PartTest(|_, p| is_part(p) && p.late == FREE_DAYS + 1)),
+    ("part 10 days late from a moved day", PartTest(|_, p| from_moved(p, FREE_DAYS))),
+    ("part 11 days late from a moved day", PartTest(|_, p| from_moved(p, FREE_DAYS + 1))),
+    ("late part that ends inside the body", PartTest(|_, p| adds(p) && p.to < p.bill.body)),
+    ("late part of both body and tax", PartTest(|_, p| adds(p) && p.to > p.bill.body)),
+    ("part that ends with the body", PartTest(|_, p| is_part(p) && p.to == p.bill.body)),
+    ("part that ends inside the tax", PartTest(|_, p| p.to > p.bill.body && !p.settles())),
+    ("late part, body by 8/108", PartTest(|_, p| adds(p) && p.bill.obligation < RISE)),
+    ("late part, body by 10/110", PartTest(|_, p| adds(p) && p.bill.obligation >= RISE)),
+    ("late part by a credited net", PartTest(|s, p| adds(p) && calls::closes(s.call))),
+    ("part by credit on posting", PartTest(by_credit_on_posting)),
+    ("interest, the last part all tax", PartTest(|_, p| p.interest() > 0 && p.from >= p.bill.body)),
+    (
+        "interest of two or more late parts",
+        PartTest(|_, p| p.interest() > 0 && p.bill.late_parts >= 2),
+    ),
+    ("interest other than on the whole body", PartTest(differs_from_whole)),
+];
+
+type PartEdge = fn(&Step, &Part) -> bool;
+
+/// A named test of a part.
+pub struct PartTest(PartEdge);
 
 fn reached(call: &Call) -> Option<u32> {
     match call.what {
@@ -168,10 +199,6 @@ fn resumed_on_stop_day(step: &Step) -> bool {
 
 fn shared(step: &Step) -> bool {
     revises(step, |_| true)
-}
-
-fn is_payment(call: &Call) -> bool {
-    matches!(call.what, What::Payment { .. })
 }
 
 fn cancelled_with_own_interest(step: &Step) -> bool {
@@ -214,12 +241,9 @@ fn settles_moved(step: &Step, test: impl Fn(&Item) -> bool) -> bool {
     settles(step, |item| moved_by(item) > 0 && test(item))
 }
 
-/// Whether it settles such an item that bears interest.
-fn interest_of(step: &Step, test: impl Fn(&Item) -> bool) -> bool {
-    let bears = |item: &Item| {
-        interest(item.amount, item.obligation, item.due, step.call.day, Rule::Right) > 0
-    };
-    settles(step, |item| test(item) && bears(item))
+/// Whether interest arises of an item with such an obligation day.
+fn interest_of(step: &Step, test: impl Fn(u32) -> bool) -> bool {
+    step.parts.iter().any(|part| part.interest() > 0 && test(part.bill.obligation))
 }
 
 /// Days from a due day to the call, 0 before it.
@@ -262,39 +286,82 @@ fn moved_down(fuel: Fuel) -> bool {
     average < BASE_AVERAGE && tariff::steps(average) > 0
 }
 
+/// Whether a part isn't the whole item.
+fn is_part(part: &Part) -> bool {
+    part.from > 0 || !part.settles()
+}
+
+/// Whether it is one that adds to its item's sum.
+fn adds(part: &Part) -> bool {
+    is_part(part) && part.late > FREE_DAYS && part.from < part.bill.body
+}
+
+/// Whether it is one so many days late from a moved due day.
+fn from_moved(part: &Part, late: u32) -> bool {
+    is_part(part) && part.late == late && part.bill.due > part.bill.obligation + TERM
+}
+
+/// Whether credit pays a part, not all, of an item as it is posted.
+fn by_credit_on_posting(step: &Step, part: &Part) -> bool {
+    calls::closes(step.call) && part.bill.obligation == step.call.day && !part.settles()
+}
+
+/// Whether an item bears other interest than on its whole body from the due day
+/// to the settling day.
+fn differs_from_whole(step: &Step, part: &Part) -> bool {
+    let bill = &part.bill;
+    let whole = interest(bill.amount, bill.obligation, bill.due, step.call.day, Rule::Right);
+    part.settles() && part.interest() != whole
+}
+
 /// What was reached.
 #[derive(Clone)]
 pub struct Counts {
     pub lines: u64,
     pub numbers: [u64; 256],
     pub edges: [u64; EDGES.len()],
+    pub part_edges: [u64; PART_EDGES.len()],
 }
 
 impl Counts {
     pub fn new() -> Counts {
-        Counts { lines: 0, numbers: [0; 256], edges: [0; EDGES.len()] }
+        Counts {
+            lines: 0,
+            numbers: [0; 256],
+            edges: [0; EDGES.len()],
+            part_edges: [0; PART_EDGES.len()],
+        }
     }
 
     pub fn add(&mut self, other: &Counts) {
         self.lines += other.lines;
-        for (sum, count) in self.numbers.iter_mut().zip(&other.numbers) {
-            *sum += count;
-        }
-        for (sum, count) in self.edges.iter_mut().zip(&other.edges) {
-            *sum += count;
-        }
+        add_each(&mut self.numbers, &other.numbers);
+        add_each(&mut self.edges, &other.edges);
+        add_each(&mut self.part_edges, &other.part_edges);
+    }
+
+    /// Each edge with how often it was reached.
+    pub fn all_edges(&self) -> Vec<(&'static str, u64)> {
+        let edges = EDGES.iter().map(|edge| edge.0).zip(self.edges);
+        let part_edges = PART_EDGES.iter().map(|edge| edge.0).zip(self.part_edges);
+        edges.chain(part_edges).collect()
     }
 
     /// How often an edge was reached.
     pub fn edge(&self, name: &str) -> u64 {
-        let place = EDGES.iter().position(|edge| edge.0 == name);
-        self.edges[place.expect("a name among the edges")]
+        let edges = self.all_edges();
+        edges.iter().find(|edge| edge.0 == name).expect("a name among the edges").1
     }
 
     /// Whether too few lives of a full run crossed 7,213 with an estimate
     /// standing: fewer than a third.
     pub fn too_few_cross(&self, lives: u64) -> bool {
         lives >= FULL && 3 * self.edge(ACROSS) < lives
+    }
+
+    /// Whether too few items of a full run were settled in three or more parts.
+    pub fn too_few_in_parts(&self, lives: u64) -> bool {
+        lives >= FULL && self.edge(IN_PARTS) < LEAST_IN_PARTS
     }
 
     fn count(&mut self, number: u8) {
@@ -306,6 +373,15 @@ impl Counts {
         for (count, (_, test)) in self.edges.iter_mut().zip(&EDGES) {
             *count += u64::from((test.0)(step));
         }
+        for (count, (_, test)) in self.part_edges.iter_mut().zip(&PART_EDGES) {
+            *count += step.parts.iter().filter(|part| (test.0)(step, part)).count() as u64;
+        }
+    }
+}
+
+fn add_each(sums: &mut [u64], counts: &[u64]) {
+    for (sum, count) in sums.iter_mut().zip(counts) {
+        *sum += count;
     }
 }
 
@@ -323,6 +399,7 @@ pub enum Failure {
     Volumes { line: usize },
     Yen { line: usize },
     NotWhole { line: usize },
+    Shares { line: usize },
 }
 
 impl Failure {
@@ -333,7 +410,8 @@ impl Failure {
             Failure::Bill { line, .. }
             | Failure::Volumes { line }
             | Failure::Yen { line }
-            | Failure::NotWhole { line } => Some(*line),
+            | Failure::NotWhole { line }
+            | Failure::Shares { line } => Some(*line),
         }
     }
 }
@@ -353,6 +431,9 @@ impl std::fmt::Display for Failure {
             Failure::Volumes { line } => write!(f, "the sum of volumes breaks at line {line}"),
             Failure::Yen { line } => write!(f, "the sum of yen breaks at line {line}"),
             Failure::NotWhole { line } => write!(f, "the account is not whole after line {line}"),
+            Failure::Shares { line } => {
+                write!(f, "a body share or a gathered sum is wrong after line {line}")
+            }
         }
     }
 }
@@ -366,7 +447,8 @@ pub struct Checker {
 }
 
 impl Checker {
-    /// Checks a life and adds to the counts what it reached.
+    /// Checks a life and adds to the counts what it reached. A blunder has to
+    /// show in the outputs.
     pub fn check(
         &mut self,
         input: &[u8],
@@ -390,7 +472,11 @@ impl Checker {
             expected,
             given,
         })?;
-        sums
+        if rule == Rule::Right {
+            sums
+        } else {
+            Ok(())
+        }
     }
 
     /// Walks the reference and the book; writes the reference's outputs.
@@ -404,7 +490,7 @@ impl Checker {
         self.bill.clear();
         self.notice.clear();
         let mut account = Account::new();
-        let mut book = Sums::new(closed);
+        let mut sums = Sums::new(closed);
         let mut result = Ok(());
         for (place, line) in frames::lines(input).enumerate() {
             let call = frames::parse(line);
@@ -413,16 +499,16 @@ impl Checker {
             account = after;
             frames::write_answer(&answer, &mut self.bill);
             counts.count(answer.number);
-            if let Some(call) = call {
+            if let Some(call) = &call {
+                sums.feed(call, &answer);
                 if answer.number == 0 {
                     let (before, after) = (&before, &account);
-                    let step = Step { closed, before, call: &call, after, answer: &answer };
-                    counts.count_edges(&step);
+                    let (answer, parts) = (&answer, sums.book.parts());
+                    counts.count_edges(&Step { closed, before, call, after, answer, parts });
                 }
-                book.feed(&call, &answer);
             }
             if result.is_ok() {
-                result = book.agree(&account, place + 1);
+                result = sums.agree(&account, place + 1);
             }
         }
         notices::write_notices(&account, &mut self.notice);
@@ -454,10 +540,27 @@ impl Sums {
             Err(Failure::Volumes { line })
         } else if !self.book.yen_agree(ledger.unpaid(), ledger.held, ledger.credit) {
             Err(Failure::Yen { line })
+        } else if !ledger.items.iter().all(shares_hold) {
+            Err(Failure::Shares { line })
         } else {
             Ok(())
         }
     }
+}
+
+/// Most days from a due day to a call, which is at least 30 days before it.
+const MOST_LATE: u64 = (LAST_CALL_DAY - TERM) as u64;
+
+/// What holds of an item after every list of calls: the body share is the body
+/// less what is paid, not below 0; the sum is at most what is paid of the body,
+/// as late as can be. Interest has neither.
+pub fn shares_hold(item: &Item) -> bool {
+    let body = match item.kind {
+        Kind::Interest => 0,
+        Kind::Price => body(item.amount, item.obligation, Rule::Right),
+    };
+    let paid = item.amount - item.unpaid;
+    item.share == body.saturating_sub(paid) && item.gathered <= body.min(paid) * MOST_LATE
 }
 
 /// The first line in which two outputs differ, and both versions of it.

@@ -6,7 +6,7 @@ use crate::calls::{Call, What};
 use crate::closed::TERM;
 use crate::frames;
 use crate::generator::Maker;
-use crate::ledger::{MOST_CREDIT, MOST_ITEMS, MOST_PAYMENT};
+use crate::ledger::{Item, Kind, MOST_CREDIT, MOST_ITEMS, MOST_PAYMENT};
 use crate::meter::MOST_POOL;
 use crate::tariff::Fuel;
 use crate::tax::RISE;
@@ -21,7 +21,7 @@ const RISE_OF_THE_TAX: &str = "rise of the tax";
 pub const OWN_DAYS: [&str; 2] = [END_OF_CALENDAR, RISE_OF_THE_TAX];
 
 /// Name, weight and maker of each profile.
-pub const PROFILES: [(&str, u32, Profile); 24] = [
+pub const PROFILES: [(&str, u32, Profile); 26] = [
     ("monthly", 12, monthly),
     ("late payer", 8, late_payer),
     ("misses", 10, misses),
@@ -46,6 +46,8 @@ pub const PROFILES: [(&str, u32, Profile); 24] = [
     ("long", 1, long),
     ("ten days late", 4, ten_days_late),
     (RISE_OF_THE_TAX, 5, rise_of_the_tax),
+    ("parts", 8, parts),
+    ("late parts by nets", 4, late_parts_by_nets),
 ];
 
 // ---- Plausible lives ----
@@ -789,6 +791,102 @@ fn far_days(m: &mut Maker) {
     for _ in 0..m.numbers.below(12) {
         let day = m.after(0, 30_000);
         m.pay(day, MOST_PAYMENT);
+    }
+    m.end();
+}
+
+// ---- Lives of items paid in parts ----
+
+/// Bills of which the oldest is paid in two to eight parts, in time and late;
+/// at times a part is paid before a bill is posted.
+fn parts(m: &mut Maker) {
+    m.open(25_000);
+    for _ in 0..m.numbers.between(3, 12) {
+        for _ in 0..m.numbers.pick(&[1, 1, 2, 3]) {
+            if m.numbers.chance(15) && m.open_items() == 0 {
+                let (day, yen) = (m.after(0, 5), m.numbers.between(1, 4_000));
+                m.pay(day, yen);
+            }
+            let day = m.after(5, 35);
+            m.close(day);
+        }
+        pay_in_parts(m);
+    }
+    m.end();
+}
+
+/// Pays the oldest price item in two to eight parts, the last one of all that is
+/// left of it; the first one pays the interest before it too.
+fn pay_in_parts(m: &mut Maker) {
+    for left in (0..m.numbers.between(2, 8)).rev() {
+        let items = &m.account.ledger.items;
+        let Some(place) = items.iter().position(|item| item.kind == Kind::Price) else {
+            return;
+        };
+        let item = items[place];
+        let before: u64 = items[..place].iter().map(|item| item.unpaid).sum();
+        let day = day_of_part(m, &item);
+        if m.numbers.chance(8) {
+            let closing = m.numbers.between(m.now(), day);
+            m.close(closing);
+        }
+        let part = if left == 0 { item.unpaid } else { part_of(m, &item, left) };
+        m.pay(day, (before + part).min(u64::from(MOST_PAYMENT)) as u32);
+    }
+}
+
+/// In time, or about ten days late from the due day or from the day that would
+/// be due day if none were closed, or later.
+fn day_of_part(m: &mut Maker, item: &Item) -> u32 {
+    let from = if m.numbers.chance(70) { item.due } else { item.obligation + TERM };
+    let day = match m.numbers.below(10) {
+        0 | 1 => m.after(0, 9),
+        2..=4 => from + 10,
+        5..=7 => from + 11,
+        8 => from + m.numbers.pick(&[0, 9, 12, 13]),
+        _ => m.after(1, 150),
+    };
+    day.max(m.now()).min(LAST_CALL_DAY)
+}
+
+/// A part that ends inside the body, with it or inside the tax, with so many
+/// parts left behind it.
+fn part_of(m: &mut Maker, item: &Item, left: u32) -> u64 {
+    let (share, tax) = (item.share as u32, (item.unpaid - item.share) as u32);
+    let yen = match m.numbers.below(10) {
+        0 => share,
+        1 => share + m.numbers.between(0, tax),
+        2 => 1,
+        3 => share.saturating_sub(1),
+        _ => m.numbers.between(1, 1 + share / left),
+    };
+    u64::from(yen).clamp(1, item.unpaid)
+}
+
+/// Late bills of which a net below zero pays a part, the rest paid in parts.
+fn late_parts_by_nets(m: &mut Maker) {
+    m.open(25_000);
+    for _ in 0..m.numbers.between(2, 6) {
+        let (day, advance) = (m.after(20, 40), m.numbers.between(20, 900));
+        m.read(day, advance);
+        for _ in 0..m.numbers.between(1, 3) {
+            let day = m.after(10, 40);
+            m.miss(day);
+        }
+        if m.numbers.chance(50) {
+            let (day, yen) = (m.after(0, 50), m.numbers.between(1, m.oldest_unpaid()));
+            m.pay(day, yen);
+        }
+        let estimated: u32 = m.account.estimates.iter().map(|e| e.volume).sum();
+        let (day, advance) = (m.after(1, 60), m.numbers.below(estimated + 1));
+        if m.numbers.chance(5) {
+            m.cancel(day, advance);
+        } else {
+            m.read(day, advance);
+        }
+        for _ in 0..m.numbers.between(1, 3) {
+            pay_in_parts(m);
+        }
     }
     m.end();
 }

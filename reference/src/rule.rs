@@ -1,5 +1,6 @@
 //! The right rules, or the right rules but one ("Plausible blunders", two
-//! about closed days and seven about the tax of ten per cent).
+//! about closed days, seven about the tax of ten per cent and six about items
+//! paid in parts).
 
 #[derive(Clone, Copy, Debug, PartialEq, Eq)]
 pub enum Rule {
@@ -10,7 +11,7 @@ pub enum Rule {
     RawBand,
     /// A meter change closes the period's days.
     MeterCloses,
-    /// Late days are counted from the eleventh.
+    /// Late days of a part are counted from the eleventh.
     LateFromEleventh,
     /// A revision is priced at the fuel prices of the closing.
     TodaysFuel,
@@ -28,14 +29,26 @@ pub enum Rule {
     FirstDayRate,
     /// A revision is priced at the rate of the closing.
     TodaysRate,
-    /// The body leaves out the tax of the settling day.
+    /// The body leaves out the tax of the day on which a part is paid.
     SettlingBody,
     /// The body leaves out the tax of the due day.
     DueBody,
+    /// A part goes to the tax first.
+    TaxFirst,
+    /// A part goes to body and tax in proportion.
+    ProRata,
+    /// The interest is cut at each part.
+    CutEachPart,
+    /// A part exactly 10 days late adds.
+    TenthDayAdds,
+    /// Interest is that of the whole body from the due day to the settling day.
+    WholeBody,
+    /// Credit and credited nets pay late parts that add nothing.
+    CreditAddsNothing,
 }
 
 impl Rule {
-    pub const BLUNDERS: [(&'static str, Rule); 14] = [
+    pub const BLUNDERS: [(&'static str, Rule); 20] = [
         ("cut-first", Rule::CutFirst),
         ("raw-band", Rule::RawBand),
         ("meter-closes", Rule::MeterCloses),
@@ -50,6 +63,12 @@ impl Rule {
         ("todays-rate", Rule::TodaysRate),
         ("settling-body", Rule::SettlingBody),
         ("due-body", Rule::DueBody),
+        ("tax-first", Rule::TaxFirst),
+        ("pro-rata", Rule::ProRata),
+        ("cut-each-part", Rule::CutEachPart),
+        ("tenth-day-adds", Rule::TenthDayAdds),
+        ("whole-body", Rule::WholeBody),
+        ("credit-adds-nothing", Rule::CreditAddsNothing),
     ];
 
     /// The right rules, unless the feature `wrong-rule` is on.

@@ -4,12 +4,54 @@
 use crate::calls::{Call, What};
 use crate::closed::Closed;
 use crate::frames;
+use crate::generator::Life;
 use crate::tariff::Fuel;
 
 type Lines = Vec<Vec<u8>>;
 
 /// Whether an input with closed days fails.
 pub type Fails<'a> = dyn FnMut(&[u8], &Closed) -> bool + 'a;
+
+/// A failing life by its number, and its shortened input and list.
+pub struct Shortened {
+    pub index: u64,
+    pub life: Life,
+    pub input: Vec<u8>,
+    pub closed: Closed,
+}
+
+impl Shortened {
+    pub fn lines(&self) -> usize {
+        frames::lines(&self.input).count()
+    }
+}
+
+/// Of the first failing lives, so many at most, the one that shortens to the
+/// fewest lines; the first that needs no more than `enough` ends the search. A
+/// life can shorten to lines of which none can go, and another to fewer.
+pub fn shortest(
+    lives: impl Iterator<Item = (u64, Life)>,
+    tried: usize,
+    enough: usize,
+    fails: &mut Fails,
+) -> Option<Shortened> {
+    let mut found: Option<Shortened> = None;
+    let mut failed = 0;
+    for (index, life) in lives {
+        if failed == tried || found.as_ref().is_some_and(|best| best.lines() <= enough) {
+            break;
+        }
+        if fails(&life.input, &life.closed) {
+            failed += 1;
+            let (input, closed) = shrink(&life.input, &life.closed, fails);
+            let shortened = Shortened { index, life, input, closed };
+            if found.as_ref().is_none_or(|best| shortened.lines() < best.lines()) {
+                found = Some(shortened);
+            }
+        }
+    }
+    found
+}
 
 /// Joins lines to an input; the last LF may lack.
 pub fn join(lines: &[Vec<u8>], last_feed: bool) -> Vec<u8> {

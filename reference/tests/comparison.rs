@@ -4,16 +4,19 @@
 use std::process::{Command, Output};
 
 use reference::benchmarks;
-use reference::check::{Checker, Counts, Itself, Other, ACROSS, EDGES, FULL, REACHABLE};
+use reference::check::{
+    Checker, Counts, Itself, Other, ACROSS, EDGES, FULL, IN_PARTS, LEAST_IN_PARTS, PART_EDGES,
+    REACHABLE,
+};
 use reference::closed::{allowed, Closed};
 use reference::fast::Fast;
 use reference::frames;
-use reference::generator::life;
+use reference::generator::{life, Life};
 use reference::lists::LISTS;
 use reference::process::Programs;
 use reference::profiles::PROFILES;
 use reference::rule::Rule;
-use reference::shrink::{shrink, Fails};
+use reference::shrink::{self, Fails};
 
 const LIVES: u64 = 2_000;
 
@@ -34,7 +37,7 @@ fn every_number_and_edge_is_reached() {
     for number in REACHABLE {
         assert!(counts.numbers[usize::from(number)] >= LIVES / 100, "number {number}");
     }
-    assert!(counts.edges.iter().all(|&count| count > 0), "{:?}", counts.edges);
+    assert!(counts.all_edges().iter().all(|edge| edge.1 > 0), "{:?}", counts.all_edges());
     assert!(counts.lines >= 50 * LIVES);
 }
 
@@ -57,6 +60,28 @@ fn a_full_run_in_which_too_few_cross_fails() {
     ] {
         counts.edges[place] = crossed;
         assert_eq!(counts.too_few_cross(lives), fails, "{crossed} of {lives}");
+    }
+}
+
+#[test]
+fn items_are_settled_in_three_or_more_parts_often_enough() {
+    let counts = check_lives(&mut Itself, 9, LIVES);
+    assert!(counts.edge(IN_PARTS) * FULL >= LEAST_IN_PARTS * LIVES, "{}", counts.edge(IN_PARTS));
+}
+
+#[test]
+fn a_full_run_with_too_few_items_in_parts_fails() {
+    let mut counts = Counts::new();
+    let place = PART_EDGES.iter().position(|edge| edge.0 == IN_PARTS).unwrap();
+    for (lives, settled, fails) in [
+        (FULL, 0, true),
+        (FULL, LEAST_IN_PARTS - 1, true),
+        (FULL, LEAST_IN_PARTS, false),
+        (FULL - 1, 0, false),
+        (2 * FULL, LEAST_IN_PARTS - 1, true),
+    ] {
+        counts.part_edges[place] = settled;
+        assert_eq!(counts.too_few_in_parts(lives), fails, "{settled} of {lives}");
     }
 }
 
@@ -171,28 +196,56 @@ fn programs_as_the_other_side() {
     }
 }
 
-/// The first failing life, shortened: its lines and its closed days.
+/// The shortest of the first failing lives, shortened: its lines and its closed
+/// days.
 fn shortest(fails: &mut Fails) -> (Vec<u8>, Closed) {
-    let found = (0..500).map(|index| life(1, index)).find(|life| fails(&life.input, &life.closed));
-    let life = found.expect("a life fails");
-    let (input, closed) = shrink(&life.input, &life.closed, fails);
-    assert!(fails(&input, &closed));
-    (input, closed)
+    let lives = (0..500).map(|index| (index, life(1, index)));
+    let found = shrink::shortest(lives, 50, 5, fails).expect("a life fails");
+    assert!(fails(&found.input, &found.closed));
+    (found.input, found.closed)
 }
 
+/// Only the outputs count, and a list of closed days only for blunders about it.
 #[test]
 fn wrong_rules_are_caught_in_a_few_lines() {
     for (name, rule) in Rule::BLUNDERS {
+        let about_closed = matches!(rule, Rule::UnmovedLate | Rule::ListedKept);
         let mut checker = Checker::default();
         let (input, closed) = shortest(&mut |input, closed| {
-            checker.check(input, closed, &mut Itself, rule, &mut Counts::new()).is_err()
+            let checked = checker.check(input, closed, &mut Itself, rule, &mut Counts::new());
+            checked.is_err() && (about_closed || closed.file().is_none())
         });
         let lines = frames::lines(&input).count();
         assert!(lines <= 5, "{name}: {lines} lines");
-        let about_closed = matches!(rule, Rule::UnmovedLate | Rule::ListedKept);
         assert_eq!(closed.file().is_some(), about_closed, "{name}");
         assert!(closed.list().len() <= 1, "{name}: {:?}", closed.list());
+        let [right, wrong] = [Rule::Right, rule].map(|rule| {
+            let list = closed.list();
+            (reference::bill(&input, list, rule), reference::notice(&input, list, rule))
+        });
+        assert_ne!(right, wrong, "{name}");
     }
+}
+
+#[test]
+fn the_shortest_of_the_first_failing_lives() {
+    let lives = || {
+        let inputs = [&b"c\n"[..], b"a\nc\na\na\n", b"a\na\nb\n"];
+        let lives = inputs.map(|input| {
+            let (input, closed) = (input.to_vec(), Closed::none());
+            Life { profile: 0, list: 0, input, closed }
+        });
+        (0..).zip(lives)
+    };
+    let mut fails = |input: &[u8], _: &Closed| {
+        let count = |byte| input.iter().filter(|&&other| other == byte).count();
+        count(b'a') == 3 || count(b'b') == 1
+    };
+    for (tried, enough, index, lines) in [(1, 1, 1, 3), (2, 3, 1, 3), (2, 2, 2, 1), (9, 0, 2, 1)] {
+        let found = shrink::shortest(lives(), tried, enough, &mut fails).unwrap();
+        assert_eq!((found.index, found.lines()), (index, lines));
+    }
+    assert!(shrink::shortest(lives(), 9, 1, &mut |_, _| false).is_none());
 }
 
 /// An other side with a fault of its own.

@@ -178,13 +178,6 @@ fn payment_settles_several_items() {
 }
 
 #[test]
-fn part_payments_do_not_change_interest() {
-    let mut run = Run::of(&[opening(0, 0, 4), reading(29, 20), payment(30, 4_849)]);
-    run.ok(payment(70, 1));
-    assert_eq!(run.account.ledger.held, 13);
-}
-
-#[test]
 fn interest_held_is_posted_before_the_price() {
     let run = Run::of(&[opening(0, 0, 4), reading(29, 20), payment(70, 4_850), missed(71)]);
     let kinds: Vec<Kind> = run.account.ledger.items.iter().map(|item| item.kind).collect();
@@ -285,17 +278,15 @@ fn interest_of_one_call_is_one_item() {
 
 #[test]
 fn cancellation_with_a_net_below_zero_posts_its_own_interest() {
-    let mut run = Run::of(&[opening(0, 0, 4), reading(29, 900), missed(59)]);
-    let first = run.account.ledger.items[0].amount;
-    let second = run.account.ledger.items[1].amount;
-    run.ok(payment(60, first as u32 - 1));
+    // 900 m³, 155,050, of which 143,565 are body; all but 100,000 in time.
+    let mut run = Run::of(&[opening(0, 0, 4), reading(29, 900), missed(59), payment(60, 55_050)]);
+    // 141 days of 0 m³, 4,465, and 950 for the estimate.
     let answer = run.ok(cancellation(200, 900)).clone();
-    assert!(answer.net < 0);
-    let expected = interest(first, 29, 59, 200, Rule::Right);
-    let refund = answer.net.unsigned_abs();
-    assert!(refund < second);
-    assert_eq!(answer.interest, expected);
-    assert_eq!(answer.unpaid, 1 + second - refund + expected);
+    assert_eq!(answer.net, 4_465 + 950 - 155_050);
+    // The body's last 88,515 × 141 days late × 274 = 3,419.7 million.
+    assert_eq!(answer.interest, 3_419);
+    let second = 155_050 - (149_635 - 100_000);
+    assert_eq!(answer.unpaid, second + 3_419);
     assert_eq!(run.account.ledger.held, 0);
     let kinds: Vec<Kind> = run.account.ledger.items.iter().map(|item| item.kind).collect();
     assert_eq!(kinds, [Kind::Price, Kind::Interest]);
@@ -304,19 +295,19 @@ fn cancellation_with_a_net_below_zero_posts_its_own_interest() {
 #[test]
 fn cancellation_posts_held_and_own_interest_as_two_items() {
     let mut run = Run::of(&[opening(0, 0, 4), reading(29, 20), reading(59, 920), missed(89)]);
+    // 4,491 × 41 × 274 = 50.5 million.
     run.ok(payment(100, 4_850));
-    let held = run.account.ledger.held;
-    assert!(held > 0);
-    let second = run.account.ledger.items[0].amount;
-    run.ok(payment(101, second as u32 - 1));
+    assert_eq!(run.account.ledger.held, 50);
+    // All of the second but a yen of its tax, 12 days late: 143,565 × 12 × 274
+    // = 472.04 million.
+    run.ok(payment(101, 155_049));
     let answer = run.ok(cancellation(300, 920)).clone();
     assert!(answer.net < 0);
-    let own = interest(second, 59, 89, 300, Rule::Right);
-    assert_eq!(answer.interest, held + own);
+    assert_eq!(answer.interest, 50 + 472);
     let kinds: Vec<Kind> = run.account.ledger.items.iter().map(|item| item.kind).collect();
     assert_eq!(kinds, [Kind::Price, Kind::Interest, Kind::Interest]);
-    assert_eq!(run.account.ledger.items[1].amount, held);
-    assert_eq!(run.account.ledger.items[2].amount, own);
+    assert_eq!(run.account.ledger.items[1].amount, 50);
+    assert_eq!(run.account.ledger.items[2].amount, 472);
 }
 
 #[test]

@@ -263,7 +263,7 @@ type Breaks = fn(&mut Account);
 fn accounts_that_are_not_whole() {
     let sound = Run::of(&[opening(0, 0, 4), reading(29, 30), missed(59)]).account;
     assert!(sound.whole());
-    let breaks: [Breaks; 23] = [
+    let breaks: [Breaks; 25] = [
         |a| a.status = Status::New,
         |a| a.latest = 36_095,
         |a| a.status = Status::Supplied { start: 61 },
@@ -282,6 +282,8 @@ fn accounts_that_are_not_whole() {
         |a| a.ledger.items = vec![a.ledger.items[0]; 73],
         |a| a.ledger.items[0].unpaid = 0,
         |a| a.ledger.items[0].unpaid = a.ledger.items[0].amount + 1,
+        |a| a.ledger.items[0].share = a.ledger.items[0].unpaid + 1,
+        |a| a.ledger.items[0].gathered = 100_000_000_000_001,
         |a| a.ledger.items[0].obligation = 60,
         |a| a.ledger.items[0].due = 36_525,
         |a| a.ledger.credit = 1,
@@ -301,7 +303,7 @@ fn accounts_that_are_not_whole() {
 #[test]
 fn amounts_at_their_limits_are_whole() {
     let mut account = Run::of(&[opening(0, 0, 4)]).account;
-    let item = |kind, amount| Item { kind, amount, unpaid: amount, obligation: 0, due: 30 };
+    let item = |kind, amount| Item::posted(kind, amount, 0, 30, Rule::Right);
     account.ledger.items =
         vec![item(Kind::Price, 1_000_000_000), item(Kind::Interest, 1_000_000_000_000)];
     assert!(account.whole());
@@ -314,6 +316,23 @@ fn amounts_at_their_limits_are_whole() {
     assert!(account.whole());
     account.ledger.credit = 1_000_000_000;
     assert!(!account.whole());
+}
+
+#[test]
+fn body_shares_and_sums_at_their_limits_are_whole() {
+    let mut account = Run::of(&[opening(0, 0, 4)]).account;
+    for kind in [Kind::Price, Kind::Interest] {
+        let posted = Item::posted(kind, 1_000, 0, 30, Rule::Right);
+        for unpaid in [1, 600, 1_000] {
+            let gathered = 100_000_000_000_000;
+            account.ledger.items = vec![Item { unpaid, share: unpaid, gathered, ..posted }];
+            assert!(account.whole());
+            account.ledger.items[0].share += 1;
+            assert!(!account.whole());
+            account.ledger.items[0] = Item { unpaid, share: 0, gathered: gathered + 1, ..posted };
+            assert!(!account.whole());
+        }
+    }
 }
 
 // ---- Two causes ----

@@ -148,6 +148,60 @@ fn sums_hold_across_the_rise_of_the_tax() {
     }
 }
 
+/// 4,850 in six parts, in time, 10 days late and later; a net below zero that
+/// pays a part of late items; credit that pays a part on posting.
+fn paid_in_parts() -> [Call; 17] {
+    [
+        opening(0, 0, 4),
+        reading(29, 20),
+        payment(40, 1_000),
+        payment(69, 500),
+        payment(70, 1_300),
+        payment(71, 1_300),
+        payment(72, 700),
+        payment(300, 50),
+        reading(301, 60),
+        missed(331),
+        reading(361, 61),
+        payment(372, 300),
+        payment(400, 100_000),
+        reading(430, 1_000),
+        payment(480, 100_000),
+        cancellation(481, 1_001),
+        payment(900, 1_000_000),
+    ]
+}
+
+#[test]
+fn sums_hold_when_items_are_paid_in_parts() {
+    let run: Vec<u16> = (50..450).collect();
+    for closed in [&[][..], &[59, 331, 361], &run] {
+        Pair::with_closed(closed).agree(&paid_in_parts());
+    }
+}
+
+#[test]
+fn the_book_tells_the_parts_of_a_call() {
+    let mut pair = Pair::new();
+    pair.agree(&paid_in_parts()[..4]);
+    let told = |pair: &Pair| {
+        let parts = pair.book.parts().iter();
+        parts.map(|part| (part.from, part.to, part.late, part.bill.parts)).collect::<Vec<_>>()
+    };
+    assert_eq!(told(&pair), [(1_000, 1_500, 10, 2)]);
+    pair.call(payment(60, 1));
+    assert_eq!(told(&pair), []);
+    pair.agree(&[reading(70, 40)]);
+    assert_eq!(told(&pair), []);
+    // 2,991 of the body left, 12 days late: 35,892, × 274 = 9.8 million.
+    pair.agree(&[payment(71, 3_400)]);
+    assert_eq!(told(&pair), [(1_500, 4_850, 12, 3), (0, 50, 0, 1)]);
+    let settled = &pair.book.parts()[0];
+    assert!(settled.settles() && settled.bill.late_parts == 1);
+    assert_eq!((settled.bill.sum, settled.interest()), (35_892, 9));
+    assert!(!pair.book.parts()[1].settles());
+}
+
 /// Whether the yen agree at the end of a life by a rule.
 fn yen_agree_by(rule: Rule, calls: &[Call]) -> bool {
     let (mut account, mut book) = (Account::new(), Book::new(&[]));
@@ -174,6 +228,25 @@ fn a_blunder_about_the_tax_breaks_the_yen() {
         assert!((0..2).any(|after| !yen_agree_by(rule, &across_the_rise(after))), "{rule:?}");
     }
     assert!((0..2).all(|after| yen_agree_by(Rule::Right, &across_the_rise(after))));
+}
+
+#[test]
+fn a_blunder_about_parts_breaks_the_yen() {
+    for rule in [
+        Rule::LateFromEleventh,
+        Rule::TaxFirst,
+        Rule::ProRata,
+        Rule::CutEachPart,
+        Rule::TenthDayAdds,
+        Rule::WholeBody,
+    ] {
+        assert!(!yen_agree_by(rule, &paid_in_parts()[..8]), "{rule:?}");
+    }
+    assert!(yen_agree_by(Rule::CreditAddsNothing, &paid_in_parts()[..8]));
+    let by_a_net =
+        [opening(0, 0, 4), reading(29, 30), missed(59), reading(89, 51), payment(100, 5_995)];
+    assert!(!yen_agree_by(Rule::CreditAddsNothing, &by_a_net));
+    assert!(yen_agree_by(Rule::Right, &by_a_net) && yen_agree_by(Rule::Right, &paid_in_parts()));
 }
 
 #[test]

@@ -8,7 +8,9 @@ use std::sync::Mutex;
 use std::thread;
 use std::time::Instant;
 
-use reference::check::{Checker, Counts, Failure, Itself, Other, ACROSS, EDGES, FULL, REACHABLE};
+use reference::check::{
+    Checker, Counts, Failure, Itself, Other, ACROSS, FULL, IN_PARTS, LEAST_IN_PARTS, REACHABLE,
+};
 use reference::closed::Closed;
 use reference::fast::Fast;
 use reference::frames;
@@ -17,7 +19,7 @@ use reference::lists::LISTS;
 use reference::process::Programs;
 use reference::profiles::PROFILES;
 use reference::rule::Rule;
-use reference::shrink;
+use reference::shrink::{self, Shortened};
 
 const USAGE: &str = "usage: compare [--lives N] [--seed S] [--jobs J] [--table FILE] [--least M]
                [--wrong-rule [NAME]] (--bill PATH --notice PATH | --linked | --fast | --itself)
@@ -29,12 +31,14 @@ const USAGE: &str = "usage: compare [--lives N] [--seed S] [--jobs J] [--table F
   --wrong-rule NAME  gives the reference a blunder: raw-band (if not named),
                      cut-first, meter-closes, late-from-eleventh, todays-fuel,
                      unmoved-late, listed-kept, cut-first-at-ten, rate-late,
-                     rate-early, first-day-rate, todays-rate, settling-body or
-                     due-body
+                     rate-early, first-day-rate, todays-rate, settling-body,
+                     due-body, tax-first, pro-rata, cut-each-part,
+                     tenth-day-adds, whole-body or credit-adds-nothing
   the other side: two programs, the linked library, the fast build of the
   reference, or the reference itself
   A run of 100,000 lives or more also fails if fewer than a third of them are
-  across day 7,213 with an estimate standing.";
+  across day 7,213 with an estimate standing, or if fewer than 20,000 items are
+  settled in three or more parts.";
 
 #[derive(Clone)]
 enum Side {
@@ -246,8 +250,8 @@ fn rows(total: &Total) -> Vec<(&'static str, String, u64)> {
     for (list, count) in LISTS.iter().zip(total.lists) {
         rows.push(("list", list.0.to_string(), count));
     }
-    for (edge, count) in EDGES.iter().zip(total.counts.edges) {
-        rows.push(("edge", edge.0.to_string(), count));
+    for (edge, count) in total.counts.all_edges() {
+        rows.push(("edge", edge.to_string(), count));
     }
     rows
 }
@@ -264,21 +268,32 @@ fn write_table(file: &str, rows: &[(&str, String, u64)]) -> std::io::Result<()> 
     fs::write(file, format!("kind\tname\tcount\n{text}"))
 }
 
-/// Prints the fewest lines and closed days that still fail.
+/// Lines of a life that shows a blunder, and failing lives that are shortened
+/// in search of one.
+const FEW_LINES: usize = 5;
+const TRIED: usize = 50;
+
+/// Prints the fewest lines and closed days that still fail: of the first
+/// failing life, or with a blunder of one of the first.
 fn report_failure(options: &Options, index: u64, failure: &Failure) {
-    let life = generator::life(options.seed, index);
-    let (profile, list) = (PROFILES[life.profile].0, LISTS[life.list].0);
-    println!("life {index} of seed {} ({profile}; closed days: {list}) fails", options.seed);
-    println!("{failure}");
     let mut other = options.side.other();
     let mut checker = Checker::default();
     let mut check = |input: &[u8], closed: &Closed| {
         checker.check(input, closed, &mut *other, options.rule, &mut Counts::new())
     };
     let mut fails = |input: &[u8], closed: &Closed| check(input, closed).is_err();
-    let (input, closed) = shrink::shrink(&life.input, &life.closed, &mut fails);
-    println!("shortened to {} lines:", frames::lines(&input).count());
-    print_lines(&input);
+    let lives = (index..options.lives).map(|index| (index, generator::life(options.seed, index)));
+    let tried = if options.rule == Rule::Right { 1 } else { TRIED };
+    let found = shrink::shortest(lives, tried, FEW_LINES, &mut fails);
+    let Some(Shortened { index, life, input, closed }) = &found else {
+        println!("life {index} of seed {} failed, and passes now\n{failure}", options.seed);
+        return;
+    };
+    let (profile, list) = (PROFILES[life.profile].0, LISTS[life.list].0);
+    println!("life {index} of seed {} ({profile}; closed days: {list}) fails", options.seed);
+    print_failure(check(&life.input, &life.closed));
+    println!("shortened to {} lines:", frames::lines(input).count());
+    print_lines(input);
     match closed.file() {
         Some(file) => {
             println!("file `closed` of {} lines:", frames::lines(file).count());
@@ -286,7 +301,11 @@ fn report_failure(options: &Options, index: u64, failure: &Failure) {
         }
         None => println!("no file `closed`"),
     }
-    if let Err(failure) = check(&input, &closed) {
+    print_failure(check(input, closed));
+}
+
+fn print_failure(checked: Result<(), Failure>) {
+    if let Err(failure) = checked {
         println!("{failure}");
     }
 }
@@ -324,7 +343,11 @@ fn compare(options: &Options) -> Result<bool, std::io::Error> {
     if too_few_cross {
         println!("fewer than a third: {ACROSS}");
     }
-    Ok(seldom.is_empty() && !too_few_cross)
+    let too_few_in_parts = total.counts.too_few_in_parts(total.lives);
+    if too_few_in_parts {
+        println!("fewer than {LEAST_IN_PARTS}: {IN_PARTS}");
+    }
+    Ok(seldom.is_empty() && !too_few_cross && !too_few_in_parts)
 }
 
 fn main() -> ExitCode {
