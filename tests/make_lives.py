@@ -555,58 +555,59 @@ def _(a):
     a.open(price_item(89, 200), interest_item(89, 50))
 
 
-@life("cancelled_by_net", "08 with net −3,800 settles an item 30 days late: its 50 interest is posted at once, 20 of it paid by the credit left")
+@life("cancelled_by_net", "08 with net −3,800 settles an item 30 days late: its 27 interest is posted at once, 20 of it paid by the credit left")
 def _(a):
-    # 9,520 on day 60: the first item, 1 day late, and 2,870 of the second, 3,780 left.
+    # 9,520 on day 60: the first item, 1 day late, and 2,870 of the second in time, 3,780 left, 3,288 of it body.
     # 08 on day 119: pool 0, 60 days of 0 m³ 1,900; the miss anew 950; 1,900 + 950 − 6,650 = −3,800.
-    # It settles 3,780 due on day 89, 30 days late: 6,158 × 30 × 274 = 50.6. 20 over, 30 of 50 left.
+    # It settles 3,780 due on day 89, 30 days late: 3,288 × 30 × 274 = 27.03. 20 over, 7 of 27 left.
     one_miss(a)
     a(payment(60, 9_520), unpaid=3_780)
-    a(cancellation(119, 130), volumes=[0, 0], net=-3_800, interest=50, unpaid=30)
-    a(payment(200, 100), credit=70)
+    a(cancellation(119, 130), volumes=[0, 0], net=-3_800, interest=27, unpaid=7)
+    a(payment(200, 100), credit=93)
 
 
-@life("cancelled_by_net_open", "the same up to the cancellation: the notice of the 30 left")
+@life("cancelled_by_net_open", "the same up to the cancellation: the notice of the 7 left")
 def _(a):
     one_miss(a)
     a(payment(60, 9_520), unpaid=3_780)
-    a(cancellation(119, 130), volumes=[0, 0], net=-3_800, interest=50, unpaid=30)
-    a.open(interest_item(119, 30))
+    a(cancellation(119, 130), volumes=[0, 0], net=-3_800, interest=27, unpaid=7)
+    a.open(interest_item(119, 7))
 
 
-@life("cancelled_with_both", "08 with interest held and interest of its own: two items, 35 and 50, one sum 85")
+@life("cancelled_with_both", "08 with interest held and interest of its own: two items, 35 and 27, one sum 62")
 def _(a):
     # As before, but the first item is paid on day 80, 21 days late: 6,158 × 21 × 274 = 35.4, held.
-    # 08: 3,800 settles 3,780, then 20 of the 35; then the 50 of its own.
+    # 08: 3,800 settles 3,780, then 20 of the 35; then the 27 of its own.
     one_miss(a)
     a(payment(80, 9_520), unpaid=3_780)
-    a(cancellation(119, 130), volumes=[0, 0], net=-3_800, interest=85, unpaid=65)
-    a.open(interest_item(119, 15), interest_item(119, 50))
+    a(cancellation(119, 130), volumes=[0, 0], net=-3_800, interest=62, unpaid=42)
+    a.open(interest_item(119, 15), interest_item(119, 27))
 
 
-@life("cancelled_with_credit", "08 with net −3,800 where 3,300 is open: 500 over pays the 50, 450 is credit")
+@life("cancelled_with_credit", "08 with net −3,800 where 3,300 is open: 500 over pays the 23, 477 is credit")
 def _(a):
+    # 3,350 of the second item in time; 6,158 − 3,350 = 2,808; 2,808 × 30 × 274 = 23.08.
     one_miss(a)
     a(payment(60, 10_000), unpaid=3_300)
-    a(cancellation(119, 130), volumes=[0, 0], net=-3_800, interest=50, credit=450)
+    a(cancellation(119, 130), volumes=[0, 0], net=-3_800, interest=23, credit=477)
 
 
-@life("net_settles_late", "02 with net −3,800 settles an item 30 days late: its 50 is held until the next closing")
+@life("net_settles_late", "02 with net −3,800 settles an item 30 days late: its 27 is held until the next closing")
 def _(a):
     one_miss(a)
     a(payment(60, 9_520), unpaid=3_780)
     a(read(119, 130), volumes=[0, 0], net=-3_800, credit=20)
-    a(read(149, 130), volumes=[0], net=950, interest=50, unpaid=980)
-    a.open(interest_item(149, 30), price_item(149, 950))
+    a(read(149, 130), volumes=[0], net=950, interest=27, unpaid=957)
+    a.open(interest_item(149, 7), price_item(149, 950))
 
 
-@life("net_settles_late_held", "02 with 35 held and net −3,800: 35 is posted, 20 of it paid; the 50 that it brings waits")
+@life("net_settles_late_held", "02 with 35 held and net −3,800: 35 is posted, 20 of it paid; the 27 that it brings waits")
 def _(a):
     one_miss(a)
     a(payment(80, 9_520), unpaid=3_780)
     a(read(119, 130), volumes=[0, 0], net=-3_800, interest=35, unpaid=15)
-    a(read(149, 130), volumes=[0], net=950, interest=50, unpaid=1_015)
-    a.open(interest_item(119, 15), interest_item(149, 50), price_item(149, 950))
+    a(read(149, 130), volumes=[0], net=950, interest=27, unpaid=992)
+    a.open(interest_item(119, 15), interest_item(149, 27), price_item(149, 950))
 
 
 @life("paid_after_cancellation", "each late payment on a cancelled account posts its interest at once; interest bears none")
@@ -655,15 +656,16 @@ def _(a):
     a.open(interest_item(149, 3), price_item(149, 950))
 
 
-@life("part_payments", "an item paid in three parts, the last yen 11 days late: 13 on the whole amount")
+@life("part_payments", "an item paid in three parts, the last yen, tax, 11 days late: none (on the whole amount it would be 13)")
 def _(a):
+    # The body of 4,491 is paid up by the second part, 1 day late.
     a(opening(0, 0, 4))
     a(read(29, 20), volumes=[20], net=4_850, unpaid=4_850)
     a(payment(40, 2_000), unpaid=2_850)
     a(payment(60, 2_849), unpaid=1)
     a(payment(70, 1))
-    a(read(89, 20), volumes=[0], net=1_900, interest=13, unpaid=1_913)
-    a.open(interest_item(89, 13), price_item(89, 1_900))
+    a(read(89, 20), volumes=[0], net=1_900, unpaid=1_900)
+    a.open(price_item(89, 1_900))
 
 
 @life("part_payments_in_time", "an item of which all but a yen is paid late, and that yen too, 10 days late: none")
@@ -1593,9 +1595,10 @@ def _(a):
     a.open(price_item(89, 950), price_item(119, 950))
 
 
-@life("closed_late_by_net", "a net below zero settles an item 10 days late from a moved day: 0; a day later it would be 18")
+@life("closed_late_by_net", "a net below zero settles an item 10 days late from a moved day: 0; a day later it would be 9")
 def _(a):
     # 6,650 of day 59 is due on day 109 in place of 89. 02 on day 119 with net −3,800 settles it, as in net_settles_late.
+    # 3,288 × 11 × 274 = 9.9.
     a.close(*range(89, 109))
     one_miss(a)
     a(payment(60, 9_520), unpaid=3_780)
@@ -1640,8 +1643,8 @@ def _(a):
     a.close(149)
     one_miss(a)
     a(payment(80, 9_520), unpaid=3_780)
-    a(cancellation(119, 130), volumes=[0, 0], net=-3_800, interest=85, unpaid=65)
-    a.open(interest_item(119, 15, 150), interest_item(119, 50, 150))
+    a(cancellation(119, 130), volumes=[0, 0], net=-3_800, interest=62, unpaid=42)
+    a.open(interest_item(119, 15, 150), interest_item(119, 27, 150))
 
 
 def all_declined(a):
@@ -1975,6 +1978,320 @@ def _(a):
     a(payment(36_094, 37_209_589))
     a(read(36_094, 49_999), volumes=[0], net=914_565, interest=267_407_530, unpaid=268_322_095)
     a.open(interest_item(36_094, 267_407_530), price_item(36_094, 914_565))
+
+
+# --- Interest on what was really late ------------------------------------------------
+# A part counts with its body share × late, and one up to 10 days late adds nothing. Bodies before day 7,213:
+# 15,650 − 1,159 = 14,491; 6,650 − 492 = 6,158; 16,900 − 1,251 = 15,649.
+
+
+@life("parts_spring", "14,000 of 15,650 in time, the rest in spring, 123 days late: 16 (on the whole it would be 488)")
+def _(a):
+    # Due on day 333, 29 November 2000; the rest on day 456, 1 April. 14,491 − 14,000 = 491; 491 × 123 × 274 = 16.5.
+    # 180 days of 0 m³: 95,000 × 180 / 30 = 570,000 sen.
+    a(opening(274, 0, 4))
+    a(read(303, 80), volumes=[80], net=15_650, unpaid=15_650)
+    a(payment(330, 14_000), unpaid=1_650)
+    a(payment(456, 1_650))
+    a(read(483, 80), volumes=[0], net=5_700, interest=16, unpaid=5_716)
+    a.open(interest_item(483, 16), price_item(483, 5_700))
+
+
+@life("parts_one_sum", "the same bill paid in one sum in spring: 488, on the whole body")
+def _(a):
+    # 14,491 × 123 × 274 = 488.4.
+    a(opening(274, 0, 4))
+    a(read(303, 80), volumes=[80], net=15_650, unpaid=15_650)
+    a(payment(456, 15_650))
+    a(read(483, 80), volumes=[0], net=5_700, interest=488, unpaid=6_188)
+    a.open(interest_item(483, 488), price_item(483, 5_700))
+
+
+def cancelled_bill(a):
+    """80 m³ in 30 days and a cancellation: 15,650 open, due on day 59."""
+    a(opening(0, 0, 4))
+    a(cancellation(29, 80), volumes=[80], net=15_650, unpaid=15_650)
+
+
+@life("parts_days", "parts 10 and 11 days late: 28, on the second only (on both 42, on the whole at the end 43)")
+def _(a):
+    # 14,491 − 5,000 = 9,491; 9,491 × 11 × 274 = 28.6. Tax first, 10,650 × 11 × 274 = 32.1. Body and tax in proportion,
+    # 5,000 − 370 = 4,630 and 9,861 of the body, 9,861 × 11 × 274 = 29.7.
+    cancelled_bill(a)
+    a(payment(69, 5_000), unpaid=10_650)
+    a(payment(70, 10_650), interest=28, unpaid=28)
+    a.open(interest_item(70, 28))
+
+
+@life("parts_closed", "the same 10 and 11 days after a due day moved by two closed days: 28 (from the day before it moved 50)")
+def _(a):
+    # Due on day 61. From day 59, (5,000 × 12 + 9,491 × 13) × 274 = 50.2. The interest is due on day 103 in place of 102.
+    a.close(59, 60, 102)
+    cancelled_bill(a)
+    a(payment(71, 5_000), unpaid=10_650)
+    a(payment(72, 10_650), interest=28, unpaid=28)
+    a.open(interest_item(72, 28, 103))
+
+
+@life("parts_many", "eight parts, three of them in time or 10 days late: 78, cut once (cut at each part 76)")
+def _(a):
+    # 16, 21, 31, 41 and 51 days late, the last with 14,491 − 11,000 = 3,491 of the body:
+    # (1,000 × 16 + 1,000 × 21 + 1,000 × 31 + 1,000 × 41 + 3,491 × 51) × 274 = 78.6. Cut at each part 4 + 5 + 8 + 11 + 48 = 76.
+    cancelled_bill(a)
+    a(payment(40, 4_000), unpaid=11_650)
+    a(payment(59, 1_000), unpaid=10_650)
+    a(payment(69, 2_000), unpaid=8_650)
+    a(payment(75, 1_000), unpaid=7_650)
+    a(payment(80, 1_000), unpaid=6_650)
+    a(payment(90, 1_000), unpaid=5_650)
+    a(payment(100, 1_000), unpaid=4_650)
+    a(payment(110, 4_650), interest=78, unpaid=78)
+    a.open(interest_item(110, 78))
+
+
+@life("parts_small", "eight parts of 110 on eight days, each below a yen by itself: 7, once the tax is paid too")
+def _(a):
+    # 950 − 70 = 880 = 8 × 110. 26 to 33 days late: 110 × 236 × 274 = 7.1; the last by itself 110 × 33 × 274 = 0.99.
+    a(opening(0, 0, 4))
+    a(cancellation(29, 0), volumes=[0], net=950, unpaid=950)
+    for n in range(1, 9):
+        a(payment(84 + n, 110), unpaid=950 - 110 * n)
+    a(payment(100, 70), interest=7, unpaid=7)
+    a.open(interest_item(100, 7))
+
+
+@life("parts_ends", "parts that end inside the body, at its end, inside the tax and with it: 95, arisen with the last")
+def _(a):
+    # (10,000 × 21 + 4,491 × 31) × 274 = 95.7; + 1,000 × 41 + 159 × 71 it would be 110.01. 90 days of 0 m³ 2,850.
+    a(opening(0, 0, 4))
+    a(read(29, 80), volumes=[80], net=15_650, unpaid=15_650)
+    a(payment(80, 10_000), unpaid=5_650)
+    a(payment(90, 4_491), unpaid=1_159)
+    a(payment(100, 1_000), unpaid=159)
+    a(read(119, 80), volumes=[0], net=2_850, unpaid=3_009)
+    a(payment(130, 159), unpaid=2_850)
+    a(read(149, 80), volumes=[0], net=950, interest=95, unpaid=3_895)
+    a.open(price_item(119, 2_850), interest_item(149, 95), price_item(149, 950))
+
+
+@life("parts_tax_late", "the body paid on its due day, the tax 941 days late: none (on the whole 3,736)")
+def _(a):
+    # 14,491 × 941 × 274 = 3,736.3.
+    cancelled_bill(a)
+    a(payment(59, 14_491), unpaid=1_159)
+    a(payment(1_000, 1_159))
+
+
+@life("parts_last_yen", "all of the body but a yen in time, that yen and the tax 3,650 days late: 1 (a day earlier 0)")
+def _(a):
+    # 1 × 3,650 × 274 = 1.0001; 1 × 3,649 × 274 = 0.9998.
+    cancelled_bill(a)
+    a(payment(59, 14_490), unpaid=1_160)
+    a(payment(3_709, 1_160), interest=1, unpaid=1)
+    a.open(interest_item(3_709, 1))
+
+
+@life("parts_net", "a net of −655 pays a part 30 days late, a payment the rest 41 days late: 67 (the payment's alone 61, on the whole 69)")
+def _(a):
+    # 6,158 − 655 = 5,503; (655 × 30 + 5,503 × 41) × 274 = 67.2; 5,503 × 41 × 274 = 61.8; 6,158 × 41 × 274 = 69.2.
+    one_miss(a)
+    a(read(89, 151), volumes=[10, 11], net=-655, unpaid=12_645)
+    a(payment(100, 5_995), unpaid=6_650)
+    a(read(119, 151), volumes=[0], net=950, interest=67, unpaid=7_667)
+    a.open(price_item(59, 6_650), interest_item(119, 67), price_item(119, 950))
+
+
+@life("parts_net_settles", "06 with net −3,800 pays the rest of an item and a part of the next, both late: 69 and 118 held, posted by 0a")
+def _(a):
+    # The item of day 29, 21 and 60 days late: (3,000 × 21 + 3,158 × 60) × 274 = 69.2. 150 of the net are left for that of day 59,
+    # 30 and 71 days late: (150 × 30 + 6,008 × 71) × 274 = 118.1. On the whole it would be 101 and 119.
+    one_miss(a)
+    a(payment(80, 3_000), unpaid=10_300)
+    a(stop(119, 130), volumes=[0, 0], net=-3_800, unpaid=6_500)
+    a(payment(160, 6_500))
+    a(cancel_stopped(170), interest=187, unpaid=187)
+    a.open(interest_item(170, 187))
+
+
+@life("parts_net_cancelled", "08 with net −3,800 settles an item paid in part before: 35 at once (the net's alone 27, on the whole 50)")
+def _(a):
+    # Day 100: the item of day 29, 6,158 × 41 × 274 = 69.2, held; 2,870 of the next, 11 days late.
+    # (2,870 × 11 + 3,288 × 30) × 274 = 35.7; 3,288 × 30 × 274 = 27.03. 20 of the net are left for the 69.
+    one_miss(a)
+    a(payment(100, 9_520), unpaid=3_780)
+    a(cancellation(119, 130), volumes=[0, 0], net=-3_800, interest=104, unpaid=84)
+    a.open(interest_item(119, 49), interest_item(119, 35))
+
+
+@life("parts_cancelled", "parts before the cancellation, by its net and after it: 50 at once; the next item in two parts: 132")
+def _(a):
+    # The item of day 29, 21, 30 and 41 days late: (3,000 × 21 + 655 × 30 + 2,503 × 41) × 274 = 50.8. 2,005 are left for that of
+    # day 59, 11 and 111 days late: (2,005 × 11 + 4,153 × 111) × 274 = 132.4. On the whole it would be 69 and 187.
+    one_miss(a)
+    a(payment(80, 3_000), unpaid=10_300)
+    a(cancellation(89, 151), volumes=[10, 11], net=-655, unpaid=9_645)
+    a(payment(100, 5_000), interest=50, unpaid=4_695)
+    a(payment(200, 4_695), interest=132, unpaid=132)
+    a(payment(900, 132))
+
+
+@life("parts_credit", "5,000 of credit used on a new item, the rest paid 41 days late: 106 (on the whole 162, with the tax first 119)")
+def _(a):
+    # 9,491 × 41 × 274 = 106.6; 14,491 × 41 × 274 = 162.8; 10,650 × 41 × 274 = 119.6.
+    a(opening(0, 0, 4))
+    a(payment(0, 5_000), credit=5_000)
+    a(cancellation(29, 80), volumes=[80], net=15_650, unpaid=10_650)
+    a(payment(100, 10_650), interest=106, unpaid=106)
+    a.open(interest_item(100, 106))
+
+
+@life("parts_credit_tax", "items that credit pays to inside the tax and to the body's end, the rest late: none (on the whole 43 and 20,928)")
+def _(a):
+    # 11 days late, 14,491 × 11 × 274 = 43.7. 60 days of 80 m³: 40 a month; 250,000 + 1,440,000 = 1,690,000 sen.
+    # 4,881 days late, 15,649 × 4,881 × 274 = 20,928.9.
+    a(opening(0, 0, 4))
+    a(payment(0, 15_000), credit=15_000)
+    a(read(29, 80), volumes=[80], net=15_650, unpaid=650)
+    a(payment(70, 16_299), credit=15_649)
+    a(cancellation(89, 160), volumes=[80], net=16_900, unpaid=1_251)
+    a(payment(5_000, 1_251))
+
+
+@life("parts_rates", "15,650 of days 7,182 and 7,213, paid in parts across day 7,213 and behind it: 49 and 71 (by one rate 46 or 74)")
+def _(a):
+    # Due on days 7,212 and 7,243, each with parts 18 and 38 days late. The first, 5,000 of it in time: 14,491 − 14,000 = 491;
+    # (9,000 × 18 + 491 × 38) × 274 = 49.5; by 10/110, with 228, 46.8. The second: 14,228 − 14,000 = 228;
+    # (14,000 × 18 + 228 × 38) × 274 = 71.4; by 8/108, with 491, 74.2.
+    a(opening(7_153, 0, 4))
+    a(read(7_182, 80), volumes=[80], net=15_650, unpaid=15_650)
+    a(payment(7_212, 5_000), unpaid=10_650)
+    a(cancellation(7_213, 160), volumes=[80], net=15_650, unpaid=26_300)
+    a(payment(7_230, 9_000), unpaid=17_300)
+    a(payment(7_250, 1_650), interest=49, unpaid=15_699)
+    a(payment(7_261, 14_000), unpaid=1_699)
+    a(payment(7_281, 1_699), interest=71, unpaid=71)
+    a.open(interest_item(7_281, 71))
+
+
+@life("parts_next", "a payment settles an item 51 days late and pays a part of the next, 21 days late: 62, and 111 with that one's rest")
+def _(a):
+    # 10,000 of the first in time: 4,491 × 51 × 274 = 62.8. (4,350 × 21 + 10,141 × 31) × 274 = 111.2. On the whole 202 and 123.
+    a(opening(0, 0, 4))
+    a(read(29, 80), volumes=[80], net=15_650, unpaid=15_650)
+    a(payment(50, 10_000), unpaid=5_650)
+    a(cancellation(59, 160), volumes=[80], net=15_650, unpaid=21_300)
+    a(payment(110, 10_000), interest=62, unpaid=11_362)
+    a(payment(120, 11_362), interest=111, unpaid=111)
+    a.open(interest_item(120, 111))
+
+
+@life("parts_same_day", "two parts of 4,000 on one day are as one of 8,000: 118 both times")
+def _(a):
+    # 21 and 41 days late: (8,000 × 21 + 6,491 × 41) × 274 = 118.95.
+    a(opening(0, 0, 4))
+    a(read(29, 80), volumes=[80], net=15_650, unpaid=15_650)
+    a(cancellation(59, 160), volumes=[80], net=15_650, unpaid=31_300)
+    a(payment(80, 4_000), unpaid=27_300)
+    a(payment(80, 4_000), unpaid=23_300)
+    a(payment(100, 7_650), interest=118, unpaid=15_768)
+    a(payment(110, 8_000), unpaid=7_768)
+    a(payment(130, 7_650), interest=118, unpaid=236)
+    a.open(interest_item(100, 118), interest_item(130, 118))
+
+
+@life("parts_queue", "an interest item paid in parts and the price item behind it: 13,264, on the price alone (with the interest 13,300)")
+def _(a):
+    # 14,491 × 21 × 274 = 83.4, held; 16,900 as in parts_credit_tax; both due on day 119. Day 3,119: 43 and 1,000.
+    # (1,000 × 3,000 + 14,649 × 3,100) × 274 = 13,264.9; + 43 × 3,000 it would be 13,300.2.
+    a(opening(0, 0, 4))
+    a(read(29, 80), volumes=[80], net=15_650, unpaid=15_650)
+    a(payment(80, 15_650))
+    a(cancellation(89, 160), volumes=[80], net=16_900, interest=83, unpaid=16_983)
+    a(payment(119, 40), unpaid=16_943)
+    a(payment(3_119, 1_043), unpaid=15_900)
+    a(payment(3_219, 15_900), interest=13_264, unpaid=13_264)
+    a.open(interest_item(3_219, 13_264))
+
+
+@life("parts_stopped", "parts in time and late while stopped, the rest after the resumption: 79 (on the whole 162)")
+def _(a):
+    # 21 and 41 days late: (5,000 × 21 + 4,491 × 41) × 274 = 79.2.
+    a(opening(0, 0, 4))
+    a(stop(29, 80), volumes=[80], net=15_650, unpaid=15_650)
+    a(payment(50, 5_000), unpaid=10_650)
+    a(payment(80, 5_000), unpaid=5_650)
+    a(resumption(90, 500, 4), unpaid=5_650)
+    a(payment(100, 5_650))
+    a(read(119, 500), volumes=[0], net=950, interest=79, unpaid=1_029)
+    a.open(interest_item(119, 79), price_item(119, 950))
+
+
+@life("parts_stopped_cancellation", "0a posts 106 held from parts; an item paid in part before it brings 99 at once when settled")
+def _(a):
+    # 5,000 of the first item in time: 9,491 × 41 × 274 = 106.6. The second, 11 and 31 days late:
+    # (4,350 × 11 + 10,141 × 31) × 274 = 99.2. On the whole 162 and 123.
+    a(opening(0, 0, 4))
+    a(read(29, 80), volumes=[80], net=15_650, unpaid=15_650)
+    a(payment(50, 5_000), unpaid=10_650)
+    a(stop(59, 160), volumes=[80], net=15_650, unpaid=26_300)
+    a(payment(100, 15_000), unpaid=11_300)
+    a(cancel_stopped(110), interest=106, unpaid=11_406)
+    a(payment(120, 11_300), interest=99, unpaid=205)
+    a.open(interest_item(110, 106), interest_item(120, 99))
+
+
+@life("parts_dearest", "99,999 m³ at the dearest fuel in three parts to day 36,094: 248,746,685 (cut at each 2 less, on the whole 332,666,524)")
+def _(a):
+    # 1 day: 205,000 / 30 = 6,833; + 36,359 × 99,999 = 3,635,870,474 sen. 36,358,704 − 2,693,237 = 33,665,467. Due on day 30:
+    # 19,970, 29,970 and 36,064 days late, the last with 33,665,467 − 29,999,999 = 3,665,468 of the body.
+    # (12,345,679 × 19,970 + 17,654,320 × 29,970 + 3,665,468 × 36,064) × 274 = 907,834,617,982 × 274 = 248,746,685.3.
+    # Cut at each 67,552,839 + 144,973,391 + 36,220,453 = 248,746,683.
+    a(opening(0, 0, 5))
+    a(change(0, 50_000, 0, 5))
+    a(cancellation(0, 49_999, DEAR), volumes=[99_999], net=36_358_704, unpaid=36_358_704)
+    a(payment(20_000, 12_345_679), unpaid=24_013_025)
+    a(payment(30_000, 17_654_320), unpaid=6_358_705)
+    a(payment(36_094, 6_358_705), interest=248_746_685, unpaid=248_746_685)
+    a.open(interest_item(36_094, 248_746_685))
+
+
+@life("parts_last_day", "parts in time, 10 days late and, on day 36,094, 11 days late: 12 (with the 10 days 26, on the whole 42)")
+def _(a):
+    # Due on day 36,083. 14,228 − 10,000 = 4,228; 4,228 × 11 × 274 = 12.7; (5,000 × 10 + 4,228 × 11) × 274 = 26.4;
+    # 14,228 × 11 × 274 = 42.9.
+    a(opening(36_024, 0, 4))
+    a(cancellation(36_053, 80), volumes=[80], net=15_650, unpaid=15_650)
+    a(payment(36_083, 5_000), unpaid=10_650)
+    a(payment(36_093, 5_000), unpaid=5_650)
+    a.no(2, payment(36_095, 5_650))
+    a(payment(36_094, 5_650), interest=12, unpaid=12)
+    a.open("012098102720981126000000000000000c")
+
+
+@life("parts_declined", "declined payments between two parts pay nothing and gather nothing: 135")
+def _(a):
+    # 21 and 41 days late: (5,000 × 21 + 9,491 × 41) × 274 = 135.4.
+    cancelled_bill(a)
+    a(payment(80, 5_000), unpaid=10_650)
+    a.no(2, payment(36_095, 5_000))
+    a.no(3, payment(79, 5_000))
+    a.no(11, payment(90, 0), payment(90, 100_000_000))
+    a.no(40, payment(90, 5_000)[:-1])
+    a(payment(100, 10_650), interest=135, unpaid=135)
+    a.open(interest_item(100, 135))
+
+
+@life("parts_no_tax", "an item of 7, without tax: 3 in time, 4 paid 2,000 days late: 2 (on the whole 3, with a yen of tax 1)")
+def _(a):
+    # 155,000 and 80,000: 146,072 + 5,064 = 151,136, so 151,140: 68,050 above, k 680; 19,500 + 6,022.08 is 25,522.
+    # 11 m³: 95,000 + 280,742 = 375,742 sen; 3,757 + 2,900 − 6,650 = 7. 7 × 8 / 108 = 0.5.
+    # Due on day 119. 4 × 2,000 × 274 = 2.2; 7 × 2,000 × 274 = 3.8; 3 × 2,000 × 274 = 1.6.
+    one_miss(a)
+    a(payment(59, 13_300))
+    a(cancellation(89, 151, (155_000, 80_000)), volumes=[10, 11], net=7, unpaid=7)
+    a(payment(100, 3), unpaid=4)
+    a(payment(2_119, 4), interest=2, unpaid=2)
+    a.open(interest_item(2_119, 2))
 
 
 # --- Writing ----------------------------------------------------------------------
