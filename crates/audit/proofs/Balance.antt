@@ -1,7 +1,7 @@
 -- The account's ledger and the book's money: the queue is the entries that are not settled, and the credit what was paid in above them all.
 -- Assumes nothing.
-use Rattle.common.proofs.Words.{◌≡◌, refl, ap, ap₂, sym, subst, ◌∙◌, Bool, true, false, cond, List, [], ◌∷◌, ◌++◌, map, map-append, append-nil, ℕ, ◌+◌, ◌-◌, ◌≤◌}
-use Rattle.common.proofs.Words.{◌<◌, zero-add, add-zero, sub_self, sub-zero, arith, ltb, ℤ, pos, negsuc, length, lt-ltb}
+use Rattle.common.proofs.Words.{◌≡◌, refl, ap, ap₂, sym, subst, ◌∙◌, Bool, true, false, cond, List, [], ◌∷◌, ◌++◌, map, map-append, append-nil, ℕ, ◌+◌}
+use Rattle.common.proofs.Words.{◌-◌, ◌≤◌, ◌<◌, zero-add, add-zero, sub_self, sub-zero, arith, ltb, ℤ, pos, negsuc, length, lt-ltb}
 use Rattle.lists.specs.Every.{Every}
 use Rattle.common.proofs.Cases.{by_test, by_zero}
 use Rattle.lists.proofs.{Sum.total_append, Every.every_append}
