@@ -143,7 +143,7 @@ pub record MeterFacts (a : Account) : Type 0 where
   pub digits_within : Digits a.meter.digits
   pub dial_within : a.meter.dial < span a.meter.digits
   pub pool_most : a.meter.pool ≤ most_volume
-  pub previous_most : a.meter.previous ≤ most_volume
+  pub basis_most : a.meter.basis ≤ most_volume
   pub misses_most : a.estimates.count ≤ most_misses
   pub estimates : Every (EstimateFacts a.latest) (standing_estimates a)
 
@@ -161,7 +161,7 @@ meter_facts a e =
       digits_within = within_true 4 5 a.meter.digits two.1;
       dial_within = ltb-true _ _ three.1;
       pool_most = leb-true _ _ four.1;
-      previous_most = leb-true _ _ five.1;
+      basis_most = leb-true _ _ five.1;
       misses_most = leb-true _ _ six.1;
       estimates = all_facts (whole_estimate a.latest) (EstimateFacts a.latest) (estimate_facts a.latest) (standing_estimates a) seven.1;
     }
@@ -171,10 +171,10 @@ unfolding whole_meter
 meter_whole a w =
     let digits = within_intro 4 5 a.meter.digits w.digits_within.0 w.digits_within.1 in
     let pool = le-leb a.meter.pool most_volume w.pool_most in
-    let previous = le-leb a.meter.previous most_volume w.previous_most in
+    let basis = le-leb a.meter.basis most_volume w.basis_most in
     let estimates =
     all_whole (whole_estimate a.latest) (EstimateFacts a.latest) (estimate_whole a.latest) (standing_estimates a) w.estimates in
-    rw (le-leb _ _ w.latest_most, digits, lt-ltb _ _ w.dial_within, pool, previous, le-leb _ _ w.misses_most, estimates)
+    rw (le-leb _ _ w.latest_most, digits, lt-ltb _ _ w.dial_within, pool, basis, le-leb _ _ w.misses_most, estimates)
 
 pub estimates_bounded : (a : Account) → MeterFacts a → Every EstimateBounds (standing_estimates a)
 estimates_bounded a w = every_map (EstimateFacts a.latest) EstimateBounds (λ _ e. e.bounds) (standing_estimates a) w.estimates

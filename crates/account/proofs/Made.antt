@@ -102,7 +102,7 @@ made_meter_lem a e =
         digits = eqb-true a.meter.digits 0 two.1 i;
         dial = eqb-true a.meter.dial 0 three.1 i;
         pool = eqb-true a.meter.pool 0 four.1 i;
-        previous = eqb-true a.meter.previous 0 five.1 i;
+        basis = eqb-true a.meter.basis 0 five.1 i;
       },
     )
 

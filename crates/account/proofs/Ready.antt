@@ -26,7 +26,7 @@ item_bounds latest item w =
 record Kept (a : Account) : Type 0 where
   pub count_most : a.ledger.count ≤ capacity
   pub within : Within (standing a.ledger)
-  pub previous_most : a.meter.previous ≤ most_volume
+  pub basis_most : a.meter.basis ≤ most_volume
   pub misses_most : a.estimates.count ≤ most_misses
   pub estimates : Every EstimateBounds (standing_estimates a)
 
@@ -46,7 +46,7 @@ facts_kept a w =
             held_most = w.ledger.held_most;
             credit_most = w.ledger.credit_most;
           };
-      previous_most = w.meter.previous_most;
+      basis_most = w.meter.basis_most;
       misses_most = w.meter.misses_most;
       estimates = estimates_bounded a w.meter;
     }
@@ -73,7 +73,7 @@ module _ (a : Account) (e : whole a ≡ true) where
   pub head_bounds : HeadBounds (head_of a)
   head_bounds =
       record {
-        previous_most = kept.previous_most;
+        basis_most = kept.basis_most;
         supplied = λ t. let known = supplied_facts a.status a t (whole_facts a e) in search;
       }
 

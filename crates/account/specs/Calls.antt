@@ -20,7 +20,7 @@ new_account =
     record {
       status = New;
       latest = 0;
-      meter = record { digits = 0; dial = 0; pool = 0; previous = 0 };
+      meter = record { digits = 0; dial = 0; pool = 0; basis = 0 };
       estimates = stored_estimates [];
       ledger = stored (record { open_items = []; credit = 0; held = 0 });
     }
@@ -116,7 +116,7 @@ missed holidays a day fuel absent volume =
     let estimate = estimate_of a day fuel absent volume in
     record {
       account =
-          account_on a day (Supplied (day_after day)) (missed_at a.meter volume)
+          account_on a day (Supplied (day_after day)) (missed_at a.meter absent volume)
           (stored_estimates (standing_estimates a ++ (estimate ∷ [])))
           (stored (closed holidays day (pos estimate.charged) (standing a.ledger)));
       estimated = volume;
@@ -163,7 +163,7 @@ stopped_cancellation holidays a day =
 unfoldable pub work : List ℕ → Account → Call → Work
 work holidays a (Opening day reading digits) = begun a day reading digits day
 work holidays a (Reading day reading fuel) = read holidays a day reading fuel (Supplied (day_after day))
-work holidays a (Missed day fuel) = missed holidays a day fuel false a.meter.previous
+work holidays a (Missed day fuel) = missed holidays a day fuel false a.meter.basis
 work holidays a (Absent day fuel) = missed holidays a day fuel true 0
 work holidays a (Exchange day old new digits) = exchanged a day old new digits
 work holidays a (Disconnection day reading fuel) = read holidays a day reading fuel (Stopped day)

@@ -48,7 +48,7 @@ made_meter a =
     eqb a.meter.digits new_account.meter.digits &&
     eqb a.meter.dial new_account.meter.dial &&
     eqb a.meter.pool new_account.meter.pool &&
-    eqb a.meter.previous new_account.meter.previous
+    eqb a.meter.basis new_account.meter.basis
 
 unfoldable pub made_estimates : Estimates → Bool
 made_estimates estimates =
@@ -101,7 +101,7 @@ whole_meter a =
     digits_allowed a.meter.digits &&
     on_dial a.meter.digits a.meter.dial &&
     volume_allowed a.meter.pool &&
-    volume_allowed a.meter.previous &&
+    volume_allowed a.meter.basis &&
     misses_allowed a.estimates.count &&
     every (whole_estimate a.latest) (standing_estimates a)
 

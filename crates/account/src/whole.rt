@@ -73,7 +73,7 @@ fn whole_meter(account: &Account) -> bool
     (account.latest <= LAST_CALL_DAY)
         & on_dial(meter.digits, meter.dial)
         & (meter.pool <= MOST_VOLUME)
-        & (meter.previous <= MOST_VOLUME)
+        & (meter.basis <= MOST_VOLUME)
         & whole_estimates(account.latest, account.estimates.standing().periods)
 }
 

@@ -8,7 +8,7 @@ use Rattle.intake.specs.{declared.Status.Status, Limits.most_misses}
 use Rattle.account.specs.declared.Account.{Account}
 use Rattle.closing.specs.Closing.{stored_estimates}
 use Rattle.account.proofs.{Facts.Facts, Facts.StatusFacts, Sound.Limited}
-use Rattle.audit.specs.Book.{Book, Metering, Period, prices, pool_with, volume_before, closed_on}
+use Rattle.audit.specs.Book.{Book, Metering, Period, basis, prices, pool_with, closed_on}
 use Rattle.audit.proofs.{Balance.Balanced, Balance.on_ledger, Periods.AbsentZero, Periods.standing_of}
 
 -- Dial, pool and periods.
@@ -16,7 +16,7 @@ pub record Metered (meter : Meter) (stored : Estimates) (book : Metering) (perio
   pub dial_is : meter.dial ≡ book.dial
   pub digits_is : meter.digits ≡ book.digits
   pub pool_is : meter.pool ≡ book.pool
-  pub previous_is : meter.previous ≡ volume_before periods
+  pub basis_is : meter.basis ≡ basis periods
   pub estimates_are : stored ≡ stored_estimates (standing_of periods)
   pub zeros : AbsentZero periods
 

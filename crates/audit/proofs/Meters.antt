@@ -27,7 +27,7 @@ limited_same day w = subst (λ (m : Money). Limited (on_ledger m)) (sym (settled
 -- What an account keeps as it is when the dial is set.
 record Carried (a : Account) : Type 0 where
   pool_most : a.meter.pool ≤ most_volume
-  previous_most : a.meter.previous ≤ most_volume
+  basis_most : a.meter.basis ≤ most_volume
   misses_most : a.estimates.count ≤ most_misses
   estimates : Every (EstimateFacts a.latest) (standing_estimates a)
   ledger : LedgerFacts a.latest a.ledger

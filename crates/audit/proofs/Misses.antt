@@ -1,6 +1,7 @@
 -- 03 and 04: a miss keeps account and book together. Assumes nothing.
-use Rattle.common.proofs.Words.{◌≡◌, refl, ap, sym, ◌∙◌, true, false, List, [], ◌∷◌, ◌++◌, map-append, reverse, reverse-cons, ℕ, ◌+◌, ◌≤◌}
+use Rattle.common.proofs.Words.{◌≡◌, refl, ap, sym, ◌∙◌, true, false, cond, List, [], ◌∷◌, ◌++◌, map-append, reverse, reverse-cons, ℕ, ◌+◌, ◌≤◌}
 use Rattle.common.proofs.Words.{le_refl, arith, ℤ, pos, length, length-append, length-take}
+use Rattle.common.proofs.Cases.{by_cond}
 use Rattle.lists.proofs.{Every.every_append, Pad.take_pad}
 use Rattle.tariff.specs.{declared.Fuel.Fuel, declared.BillingPeriod.BillingPeriod}
 use Rattle.tariff.proofs.Bounds.{price_most}
@@ -93,6 +94,7 @@ module _ (holidays : List ℕ) (listed : list_allowed holidays ≡ true)
       let this : EstimateFacts day estimate = record { bounds = estimate_bounds; closing_most = le_refl day } in
       let each = every_append (EstimateFacts day) (standing_estimates a) (estimate ∷ []) before (this, tt) in
       let stored = rw (← take_pad blank most_misses all) at each in
+      let basis_most = by_cond (λ v. v ≤ most_volume) (is_absence call) facts.basis_most within in
       search
 
   finished_is : finished holidays (Book.closed holidays b.money day net) day ≡ money
@@ -106,7 +108,10 @@ module _ (holidays : List ℕ) (listed : list_allowed holidays ≡ true)
   miss_matched fits =
       rw finished_is
       (record {
-        metered = let estimates = ap stored_estimates estimates_are in search;
+        metered =
+            let estimates = ap stored_estimates estimates_are in
+            let basis_is = ap (λ v. cond (is_absence call) v volume) w.metered.basis_is in
+            search;
         balanced = stands_balanced closed_after fits;
         status_match = (refl, unfold money in supplied.not_cancelled);
         facts = (le_refl (day + 1), record { meter = meter_after; ledger = stands_facts closed_after fits });

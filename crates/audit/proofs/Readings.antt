@@ -110,7 +110,7 @@ module _ (holidays : List ℕ) (listed : list_allowed holidays ≡ true)
   meter_after : (status : Status) (after : Ledger) → MeterFacts (after_reading a day reading fuel status after)
   meter_after status after =
       let facts = supplied.facts.meter in
-      let previous_most = this_within (standing_estimates a) (pool_to a.meter reading) p.pool_most in
+      let basis_most = this_within (standing_estimates a) (pool_to a.meter reading) p.pool_most in
       search arith
 
   metered_after : Metered (read_at a.meter reading (of_this_period final)) (stored_estimates []) (read b.metering day reading) periods
@@ -120,7 +120,7 @@ module _ (holidays : List ℕ) (listed : list_allowed holidays ≡ true)
         dial_is = refl;
         digits_is = w.metered.digits_is;
         pool_is = refl;
-        previous_is = rw final_is (sym (last_is (given b.periods pool)));
+        basis_is = rw (no-absence, final_is) (sym (last_is (given b.periods pool)));
         estimates_are = rw is-reading refl;
         zeros = ((λ e. absurd (false≢true (sym no-absence ∙ e))), zeros_after b.periods pool w.metered.zeros);
       }

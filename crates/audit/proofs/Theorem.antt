@@ -20,7 +20,7 @@ use Rattle.closing.specs.Closing.{stored_estimates}
 use Rattle.account.proofs.{Concluding.outcome_not_listed, Facts.facts_whole, Passed.Accepted}
 use Rattle.intake.proofs.Passed.{begun, reading_passed, miss_passed, dial_passed, exchange_passed, payment_passed}
 use Rattle.ledger.proofs.Within.{Passes}
-use Rattle.audit.specs.Book.{Book, new_period, prices, accept_miss, accept, enter}
+use Rattle.audit.specs.Book.{Book, basis, new_period, prices, accept_miss, accept, enter}
 use Rattle.audit.specs.Claim.{Run, start, step, run, final_volume, unpaid_on, Reconciled, Done, Ran, seen}
 use Rattle.audit.proofs.Matching.{Matched, supply, stop, estimates_stand}
 use Rattle.audit.proofs.Readings.{reading-matched, disconnection-matched, cancellation-matched, reading_advanced}
@@ -55,12 +55,12 @@ keeps holidays a b w (Reading day reading fuel) p =
 keeps holidays a b w (Missed day fuel) p =
     let call = Missed day fuel in
     let q = miss_passed (head_of a) day fuel p.first_passed in
-    let previous = (supply w q.supplied).facts.meter.previous_most in
-    let after = miss_matched holidays p.listed w q call refl a.meter.previous previous (λ e. absurd (false≢true e)) (passes p) in
+    let most = (supply w q.supplied).facts.meter.basis_most in
+    let after = miss_matched holidays p.listed w q call refl a.meter.basis most (λ e. absurd (false≢true e)) (passes p) in
     let With : ℕ → Type 0 = λ v.
     Matched (work holidays a call).account (accept_miss holidays b day (new_period b.metering call day fuel v ∷ b.periods))
     in
-    record { matched = subst With w.metered.previous_is after; volumes = zero-add _ }
+    record { matched = subst With w.metered.basis_is after; volumes = zero-add _ }
 keeps holidays a b w (Absent day fuel) p =
     let q = miss_passed (head_of a) day fuel p.first_passed in
     record { matched = miss_matched holidays p.listed w q (Absent day fuel) refl 0 (omega arith) (λ _. refl) (passes p); volumes = zero-add _ }
@@ -133,7 +133,7 @@ start_holds =
     record {
       matched =
           record {
-            metered = record { dial_is = refl; digits_is = refl; pool_is = refl; previous_is = refl; estimates_are = refl; zeros = tt };
+            metered = record { dial_is = refl; digits_is = refl; pool_is = refl; basis_is = refl; estimates_are = refl; zeros = tt };
             balanced = record { stored_as = refl; fits = omega arith; kept = record { covers = tt; sums = refl } };
             status_match = refl;
             facts = refl;
@@ -187,6 +187,10 @@ pub parts_kept : (holidays : List ℕ) (calls : List Call) → Every PartFacts (
 parts_kept holidays calls =
     let matched = (run_holds holidays start calls start_holds).matched in
     subst (λ (s : Standing). Every PartFacts s.open_items) (sym (standing_is matched.balanced)) matched.limited.parts
+
+-- The number that the account keeps is the volume of the nearest period of the book that wasn't an 04 period.
+pub basis_kept : (holidays : List ℕ) (calls : List Call) → let r = run holidays start calls in r.account.meter.basis ≡ basis r.book.periods
+basis_kept holidays calls = (run_holds holidays start calls start_holds).matched.metered.basis_is
 
 replicate_behind : (n : ℕ) (answer : Answer) (answers : List Answer)
     → replicate n answer ++ (answer ∷ answers) ≡ answer ∷ (replicate n answer ++ answers)

@@ -115,10 +115,10 @@ price_at period = price_of (billed_as period) period.volume
 abbrev pub prices : List Period → ℕ
 prices = total price_at
 
--- The volume of the period just before, of any kind; before any period it is 0 (14(4), 14(7)).
-abbrev pub volume_before : List Period → ℕ
-volume_before [] = 0
-volume_before (period ∷ periods) = period.volume
+-- The basis of missed readings: the volume of the nearest period that wasn't an 04 period; if there is none it is 0 (14(4), 14(7); request e).
+abbrev pub basis : List Period → ℕ
+basis [] = 0
+basis (period ∷ periods) = cond (is_absence period.call) (basis periods) period.volume
 
 abbrev pub closed_on : List Period → ℕ → Bool
 closed_on [] day = false
@@ -231,9 +231,9 @@ with_reading m periods call day reading fuel =
     new_period m call day fuel (last_of (volumes_given periods (pool_with m reading))) ∷
     reverse (revised (reverse (estimates periods)) (volumes_given periods (pool_with m reading))) ++ before_estimates periods
 
--- 03 bills the volume of the period just before; 04 bills 0 (14(6)).
+-- 03 bills the basis; 04 bills 0 (14(6)).
 abbrev pub with_miss : Metering → List Period → ℕ → Fuel → List Period
-with_miss m periods day fuel = new_period m (Missed day fuel) day fuel (volume_before periods) ∷ periods
+with_miss m periods day fuel = new_period m (Missed day fuel) day fuel (basis periods) ∷ periods
 
 abbrev pub with_absence : Metering → List Period → ℕ → Fuel → List Period
 with_absence m periods day fuel = new_period m (Absent day fuel) day fuel 0 ∷ periods

@@ -18,6 +18,7 @@ use meter::StandingPeriods;
 use samples::{FUEL, INTEREST, MISSED};
 use std::io;
 use tariff::{BillingPeriod, Fuel};
+use upgrade::basis::with_basis;
 use upgrade::closing_days::with_closing_days;
 use upgrade::parts::with_parts;
 
@@ -49,6 +50,7 @@ fn main(rt: HostRuntime) -> io::Result<()> {
     revision_by_tax(&rt)?;
     closing_days(&rt)?;
     parts_kept(&rt)?;
+    basis_kept(&rt)?;
     interest_with_a_share(&rt)?;
     advances(&rt)?;
     half_span(&rt, 5_000)?;
@@ -212,6 +214,29 @@ fn parts_kept(rt: &impl Print) -> io::Result<()> {
         let mut kept = billed().pay(&[], 130, paid).account;
         kept.ledger.items[0].share = 7;
         show_parts(rt, with_parts(kept), "kept from before")?;
+    }
+    Ok(())
+}
+
+// An account kept from before, with estimates of 20 m3 and of an absence, bills on the last volume that it had.
+fn basis_kept(rt: &impl Print) -> io::Result<()> {
+    let kept = Account::new()
+        .begin_supply(&[], 60, 0, 4)
+        .account
+        .read_meter(&[], 89, 20, FUEL)
+        .account
+        .miss_reading(&[], 119, FUEL)
+        .account
+        .note_absence(&[], 149, FUEL)
+        .account;
+    for last_volume in [0, 7, 99_999, 100_000] {
+        let missed = with_basis(kept, last_volume)
+            .miss_reading(&[], 179, FUEL)
+            .answer;
+        println!(rt;
+            "kept from before, last volume {last_volume}: number {}, estimated {}",
+            missed.number, missed.estimated
+        )?;
     }
     Ok(())
 }

@@ -22,7 +22,7 @@ pub record SuppliedBounds (h : Head) : Type 0 where
   pub meter : MeterBounds h.meter
 
 pub record HeadBounds (h : Head) : Type 0 where
-  pub previous_most : h.meter.previous ≤ most_volume
+  pub basis_most : h.meter.basis ≤ most_volume
   pub supplied : is_supplied h.status ≡ true → SuppliedBounds h
 
 -- and of its estimates.

@@ -16,14 +16,14 @@ pub const MOST_MISSES: usize = 6;
 // The most volumes that one reading makes final: those of the estimates and this period's.
 pub const MOST_FINAL: usize = MOST_MISSES + 1;
 
-// A meter under supply: its digits and what its dial showed last; the advance of all meters since the last real closing reading;
-// the volume of the latest period.
+// A meter under supply: its digits and what its dial showed last; the advance of all meters since the last real closing reading; the
+// volume on which a missed reading is estimated.
 #[derive(Clone, Copy, PartialEq, Eq, Debug, Default)]
 pub struct Meter {
     pub digits: u8,
     pub dial: u32,
     pub pool: u32,
-    pub previous: u32,
+    pub basis: u32,
 }
 
 impl Meter {

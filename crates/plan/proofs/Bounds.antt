@@ -53,7 +53,7 @@ module _ (h : Head) (w : HeadBounds h) where
     unfolding first_refusal passed_plan
     entry_within (Opening _ _ _) e = tt
     entry_within (Reading day reading fuel) e = read_within day reading fuel Goes e
-    entry_within (Missed day fuel) e = miss_within day fuel false h.meter.previous w.previous_most e
+    entry_within (Missed day fuel) e = miss_within day fuel false h.meter.basis w.basis_most e
     entry_within (Absent day fuel) e = miss_within day fuel true 0 (omega arith) e
     entry_within (Exchange _ _ _ _) e = tt
     entry_within (Disconnection day reading fuel) e = read_within day reading fuel Stops e

@@ -114,7 +114,7 @@ module _ (h : Head) (day : ℕ) (fuel : Fuel) (absent : Bool) (volume : ℕ) whe
   abbrev pub miss_plan : Plan
   miss_plan =
       record {
-        head = head_on h (Supplied (day_after day)) day (missed_at h.meter volume) (h.standing + 1);
+        head = head_on h (Supplied (day_after day)) day (missed_at h.meter absent volume) (h.standing + 1);
         change = Added absent (days_of (start_of h.status) day) fuel;
         entry = Some (record { day = day; money = 0; charge = Some miss_charge; posts = false });
         estimated = volume;
@@ -122,9 +122,9 @@ module _ (h : Head) (day : ℕ) (fuel : Fuel) (absent : Bool) (volume : ℕ) whe
         net = pos miss_charge;
       }
 
--- 03 bills the volume of the period just before, 04 bills 0.
+-- 03 bills the basis of missed readings, 04 bills 0.
 abbrev pub missed_volume : Head → Bool → ℕ
-missed_volume h absent = cond absent 0 h.meter.previous
+missed_volume h absent = cond absent 0 h.meter.basis
 
 -- 02, 06 and 08, over the estimates that stand.
 -- What a reading that worked out these figures plans.
@@ -154,7 +154,7 @@ read_volumes h estimates r = volumes_as (reading_refusal h r.day r.reading r.fue
 unfoldable pub passed_plan : Head → List Estimate → Call → Plan
 passed_plan h estimates (Opening day reading digits) = begun_plan h day reading digits day
 passed_plan h estimates (Reading day reading fuel) = read_plan h estimates day reading fuel Goes
-passed_plan h estimates (Missed day fuel) = miss_plan h day fuel false h.meter.previous
+passed_plan h estimates (Missed day fuel) = miss_plan h day fuel false h.meter.basis
 passed_plan h estimates (Absent day fuel) = miss_plan h day fuel true 0
 passed_plan h estimates (Exchange day old new digits) = exchanged_plan h day old new digits
 passed_plan h estimates (Disconnection day reading fuel) = read_plan h estimates day reading fuel Stops

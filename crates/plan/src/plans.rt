@@ -225,15 +225,14 @@ fn plan_miss(billing: Billing<'_>, day: u16, fuel: Fuel, absent: bool) -> Result
     Ok(estimate_period(billing, day, fuel, absent, volume))
 }
 
-// 03 bills the volume of the period just before, 04 bills 0.
+// 03 bills the basis of missed readings, 04 bills 0.
 fn missed_volume(head: Head, absent: bool) -> u32
     ensures { result ≡ missed_volume head absent }
 {
-    if absent { 0 } else { head.meter.previous }
+    if absent { 0 } else { head.meter.basis }
 }
 
-// The period is billed on an estimate, which stands until a reading.
-#[inline(always)]
+// The period is billed on an estimate, which stands until a reading. An 04 leaves the basis of missed readings as it is.
 #[tactic(auto, using(crate::proofs::Bounds::missed_most))]
 fn estimate_period(billing: Billing<'_>, day: u16, fuel: Fuel, absent: bool, volume: u32) -> Plan
     requires fuel_value { miss_refusal billing.head day fuel ≡ 0 }
@@ -247,7 +246,7 @@ fn estimate_period(billing: Billing<'_>, day: u16, fuel: Fuel, absent: bool, vol
         status: Status::Supplied { start: day + 1 },
         latest: day,
         meter: Meter {
-            previous: volume,
+            basis: if absent { head.meter.basis } else { volume },
             ..head.meter
         },
         standing: head.standing + 1,
@@ -300,7 +299,7 @@ fn after_reading(head: Head, read: ClosingRead, figures: Figures) -> Plan
         meter: Meter {
             dial: read.reading,
             pool: 0,
-            previous: figures.volume,
+            basis: figures.volume,
             ..head.meter
         },
         standing: 0,

@@ -20,7 +20,7 @@ const METER: Meter = Meter {
     digits: 4,
     dial: 130,
     pool: 10,
-    previous: 30,
+    basis: 30,
 };
 
 // A period of 30 days, at the old rate of tax.

@@ -61,16 +61,8 @@ fn meters(rt: &impl Print) -> io::Result<()> {
     show(rt, with_dial(5, 100_000), "dial 100000 of 5 digits")?;
     show(rt, with_pool(99_999), "pool 99999")?;
     show(rt, with_pool(100_000), "pool 100000")?;
-    changed(
-        rt,
-        |account| account.meter.previous = 99_999,
-        "previous volume 99999",
-    )?;
-    changed(
-        rt,
-        |account| account.meter.previous = 100_000,
-        "previous volume 100000",
-    )
+    changed(rt, |account| account.meter.basis = 99_999, "basis 99999")?;
+    changed(rt, |account| account.meter.basis = 100_000, "basis 100000")
 }
 
 fn estimate_days(rt: &impl Print) -> io::Result<()> {

@@ -22,7 +22,7 @@ fn meters(rt: &impl Print) -> io::Result<()> {
     changed(rt, |new| new.meter.digits = 4, "new, 4 digits")?;
     changed(rt, |new| new.meter.dial = 1, "new, dial 1")?;
     changed(rt, |new| new.meter.pool = 1, "new, pool 1")?;
-    changed(rt, |new| new.meter.previous = 1, "new, previous volume 1")
+    changed(rt, |new| new.meter.basis = 1, "new, basis 1")
 }
 
 fn lists(rt: &impl Print) -> io::Result<()> {

@@ -122,7 +122,7 @@ module _ (a : Account) where
               digits_within = m.digits_within;
               dial_within = m.dial_within;
               pool_most = m.pool_most;
-              previous_most = m.previous_most;
+              basis_most = m.basis_most;
               misses_most = m.misses_most;
               estimates = rw (standing_with a estimates long) (known (rw forgotten_stand at m.estimates));
             };

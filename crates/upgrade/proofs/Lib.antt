@@ -4,3 +4,4 @@ pub mod ClosingDays
 pub mod Turning
 pub mod Reached
 pub mod Started
+pub mod LastVolume

@@ -66,7 +66,7 @@ module _ (holidays : List ℕ) {a : Account} (w : Followed a) where
       let q = dial_passed (is_new a.status) (head_of a) day reading digits p.first_passed in
       begun_followed (ap is_supplied (new_is a.status q.status_allows)) day reading digits day
   call_followed (Reading day reading fuel) p = read_followed day reading fuel _ _
-  call_followed (Missed day fuel) p = miss_followed (miss_passed (head_of a) day fuel p.first_passed) false a.meter.previous
+  call_followed (Missed day fuel) p = miss_followed (miss_passed (head_of a) day fuel p.first_passed) false a.meter.basis
   call_followed (Absent day fuel) p = miss_followed (miss_passed (head_of a) day fuel p.first_passed) true 0
   call_followed (Exchange day old new digits) p = record { none = w.none; follow = w.follow }
   call_followed (Disconnection day reading fuel) p = read_followed day reading fuel _ _
