@@ -46,8 +46,9 @@ pub struct Account {
     pub digits: u32,
     pub dial: u32,
     pub pool: u32,
-    /// The volume of the period just before; 0 before any.
-    pub previous: u32,
+    /// The volume of the latest period that wasn't an 04 period, which an 03
+    /// takes; 0 if there is none.
+    pub last_not_absent: u32,
     /// Oldest first.
     pub estimates: Vec<Estimate>,
     pub ledger: Ledger,
@@ -61,7 +62,7 @@ impl Account {
             digits: 0,
             dial: 0,
             pool: 0,
-            previous: 0,
+            last_not_absent: 0,
             estimates: Vec::new(),
             ledger: Ledger::default(),
         }
@@ -88,7 +89,7 @@ impl Account {
         meter::digits_allowed(self.digits)
             && self.dial < meter::span(self.digits)
             && self.pool <= MOST_POOL
-            && self.previous <= MOST_POOL
+            && self.last_not_absent <= MOST_POOL
     }
 
     fn estimates_whole(&self) -> bool {

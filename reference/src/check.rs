@@ -1,8 +1,9 @@
-//! One life checked: outputs byte for byte; both sums, wholeness and what holds
-//! of body shares and gathered sums after every line. Counts what was reached.
+//! One life checked: outputs byte for byte; both sums, wholeness, the volume
+//! that an 03 takes and what holds of body shares and gathered sums after every
+//! line. Counts what was reached.
 
 use crate::account::{Account, Estimate, Status};
-use crate::book::{Book, Part};
+use crate::book::{Before, Book, Closing, Part};
 use crate::calendar::{LAST_CALL_DAY, LAST_DAY};
 use crate::calls::{self, Answer, Call, What};
 use crate::closed::{self, Closed, MOST_CLOSED, TERM};
@@ -36,15 +37,15 @@ impl Other for Itself {
 /// The numbers that a line can reach.
 pub const REACHABLE: [u8; 16] = [0, 1, 2, 3, 4, 5, 6, 7, 8, 9, 10, 11, 12, 13, 14, 40];
 
-/// A call with the closed days, the account before and after it, and the parts
-/// of price items that it paid.
+/// A call with the closed days, the account before and after it, and the book
+/// after it.
 struct Step<'a> {
     closed: &'a [u16],
     before: &'a Account,
     call: &'a Call,
     after: &'a Account,
     answer: &'a Answer,
-    parts: &'a [Part],
+    book: &'a Book,
 }
 
 type Edge = fn(&Step) -> bool;
@@ -57,11 +58,15 @@ pub const ACROSS: &str = "lives across day 7,213 with an estimate standing";
 pub const IN_PARTS: &str = "item settled in three or more parts";
 pub const LEAST_IN_PARTS: u64 = 20_000;
 
+/// Another that it must reach so many times.
+pub const BEHIND_ABSENCE: &str = "03 just behind an 04";
+pub const LEAST_BEHIND_ABSENCE: u64 = 50_000;
+
 /// Lives of a full run.
 pub const FULL: u64 = 100_000;
 
 /// Edges that accepted calls reach.
-pub const EDGES: [(&str, EdgeTest); 39] = [
+pub const EDGES: [(&str, EdgeTest); 44] = [
     ("72 items open", EdgeTest(|s| s.after.ledger.items.len() == MOST_ITEMS)),
     ("six estimates stand", EdgeTest(|s| s.after.estimates.len() == 6)),
     ("advance of half the span", EdgeTest(|s| turned(s) == Some(meter::span(s.before.digits) / 2))),
@@ -140,6 +145,20 @@ pub const EDGES: [(&str, EdgeTest); 39] = [
     ("interest at 10/110", EdgeTest(|s| interest_of(s, |day| day >= RISE))),
     ("interest, obligation day 7,212", EdgeTest(|s| interest_of(s, |day| day == RISE - 1))),
     ("interest, obligation day 7,213", EdgeTest(|s| interest_of(s, |day| day == RISE))),
+    (BEHIND_ABSENCE, EdgeTest(behind_absence)),
+    (
+        "03 just behind an 04, of a volume above 0",
+        EdgeTest(|s| behind_absence(s) && s.answer.estimated > 0),
+    ),
+    ("03 behind two or more 04", EdgeTest(|s| misses_behind(s, |b| b.absences >= 2))),
+    (
+        "03 behind 04 only",
+        EdgeTest(|s| misses_behind(s, |b| b.absences > 0 && b.nearest.is_none())),
+    ),
+    (
+        "03 behind a resumption",
+        EdgeTest(|s| misses_behind(s, |b| b.nearest == Some(Closing::Stop))),
+    ),
 ];
 
 /// A named test of a step.
@@ -243,7 +262,7 @@ fn settles_moved(step: &Step, test: impl Fn(&Item) -> bool) -> bool {
 
 /// Whether interest arises of an item with such an obligation day.
 fn interest_of(step: &Step, test: impl Fn(u32) -> bool) -> bool {
-    step.parts.iter().any(|part| part.interest() > 0 && test(part.bill.obligation))
+    step.book.parts().iter().any(|part| part.interest() > 0 && test(part.bill.obligation))
 }
 
 /// Days from a due day to the call, 0 before it.
@@ -284,6 +303,15 @@ fn moved_up(fuel: Fuel) -> bool {
 fn moved_down(fuel: Fuel) -> bool {
     let average = tariff::average(fuel);
     average < BASE_AVERAGE && tariff::steps(average) > 0
+}
+
+/// Whether the call is an 03 with such periods before its own.
+fn misses_behind(step: &Step, test: impl Fn(&Before) -> bool) -> bool {
+    matches!(step.call.what, What::Missed { .. }) && test(&step.book.before_latest())
+}
+
+fn behind_absence(step: &Step) -> bool {
+    misses_behind(step, |before| before.absences > 0)
 }
 
 /// Whether a part isn't the whole item.
@@ -364,6 +392,11 @@ impl Counts {
         lives >= FULL && self.edge(IN_PARTS) < LEAST_IN_PARTS
     }
 
+    /// Whether too few 03 periods of a full run stood just behind an 04 period.
+    pub fn too_few_behind_absence(&self, lives: u64) -> bool {
+        lives >= FULL && self.edge(BEHIND_ABSENCE) < LEAST_BEHIND_ABSENCE
+    }
+
     fn count(&mut self, number: u8) {
         self.lines += 1;
         self.numbers[usize::from(number)] += 1;
@@ -374,7 +407,8 @@ impl Counts {
             *count += u64::from((test.0)(step));
         }
         for (count, (_, test)) in self.part_edges.iter_mut().zip(&PART_EDGES) {
-            *count += step.parts.iter().filter(|part| (test.0)(step, part)).count() as u64;
+            let parts = step.book.parts().iter();
+            *count += parts.filter(|part| (test.0)(step, part)).count() as u64;
         }
     }
 }
@@ -399,6 +433,7 @@ pub enum Failure {
     Volumes { line: usize },
     Yen { line: usize },
     NotWhole { line: usize },
+    LastNotAbsent { line: usize },
     Shares { line: usize },
 }
 
@@ -411,6 +446,7 @@ impl Failure {
             | Failure::Volumes { line }
             | Failure::Yen { line }
             | Failure::NotWhole { line }
+            | Failure::LastNotAbsent { line }
             | Failure::Shares { line } => Some(*line),
         }
     }
@@ -431,6 +467,9 @@ impl std::fmt::Display for Failure {
             Failure::Volumes { line } => write!(f, "the sum of volumes breaks at line {line}"),
             Failure::Yen { line } => write!(f, "the sum of yen breaks at line {line}"),
             Failure::NotWhole { line } => write!(f, "the account is not whole after line {line}"),
+            Failure::LastNotAbsent { line } => {
+                write!(f, "the volume that an 03 takes is wrong after line {line}")
+            }
             Failure::Shares { line } => {
                 write!(f, "a body share or a gathered sum is wrong after line {line}")
             }
@@ -503,8 +542,8 @@ impl Checker {
                 sums.feed(call, &answer);
                 if answer.number == 0 {
                     let (before, after) = (&before, &account);
-                    let (answer, parts) = (&answer, sums.book.parts());
-                    counts.count_edges(&Step { closed, before, call, after, answer, parts });
+                    let (answer, book) = (&answer, &sums.book);
+                    counts.count_edges(&Step { closed, before, call, after, answer, book });
                 }
             }
             if result.is_ok() {
@@ -540,6 +579,8 @@ impl Sums {
             Err(Failure::Volumes { line })
         } else if !self.book.yen_agree(ledger.unpaid(), ledger.held, ledger.credit) {
             Err(Failure::Yen { line })
+        } else if self.book.last_not_absent() != account.last_not_absent {
+            Err(Failure::LastNotAbsent { line })
         } else if !ledger.items.iter().all(shares_hold) {
             Err(Failure::Shares { line })
         } else {

@@ -21,7 +21,7 @@ const RISE_OF_THE_TAX: &str = "rise of the tax";
 pub const OWN_DAYS: [&str; 2] = [END_OF_CALENDAR, RISE_OF_THE_TAX];
 
 /// Name, weight and maker of each profile.
-pub const PROFILES: [(&str, u32, Profile); 26] = [
+pub const PROFILES: [(&str, u32, Profile); 27] = [
     ("monthly", 12, monthly),
     ("late payer", 8, late_payer),
     ("misses", 10, misses),
@@ -48,6 +48,7 @@ pub const PROFILES: [(&str, u32, Profile); 26] = [
     (RISE_OF_THE_TAX, 5, rise_of_the_tax),
     ("parts", 8, parts),
     ("late parts by nets", 4, late_parts_by_nets),
+    ("absences", 8, absences),
 ];
 
 // ---- Plausible lives ----
@@ -889,4 +890,52 @@ fn late_parts_by_nets(m: &mut Maker) {
         }
     }
     m.end();
+}
+
+// ---- Lives of absences ----
+
+/// Absences and misses behind the opening, a reading, at times one that revised,
+/// or a stop and a resumption.
+fn absences(m: &mut Maker) {
+    m.open(25_000);
+    if m.numbers.chance(40) {
+        read_or_stop(m);
+    }
+    for _ in 0..m.numbers.between(4, 13) {
+        for _ in 0..m.numbers.pick(&[1, 2, 2, 3]) {
+            absent_then_missed(m);
+        }
+        close_after_misses(m);
+        if m.numbers.chance(50) {
+            let day = m.after(0, 60);
+            m.pay_some(day);
+        }
+        if m.numbers.chance(65) {
+            read_or_stop(m);
+        }
+    }
+    m.end();
+}
+
+fn read_or_stop(m: &mut Maker) {
+    let (day, advance) = (m.after(1, 40), m.volume());
+    if m.numbers.chance(75) {
+        m.read(day, advance);
+    } else {
+        m.stop(day, advance);
+        let day = m.after(0, 40);
+        m.resume(day);
+    }
+}
+
+/// Up to three absences, then up to two misses.
+fn absent_then_missed(m: &mut Maker) {
+    for _ in 0..m.numbers.pick(&[0, 1, 1, 1, 2, 3]) {
+        let day = m.after(1, 45);
+        m.absent(day);
+    }
+    for _ in 0..m.numbers.pick(&[0, 1, 1, 2]) {
+        let day = m.after(1, 45);
+        m.miss(day);
+    }
 }

@@ -1,6 +1,6 @@
 //! The right rules, or the right rules but one ("Plausible blunders", two
-//! about closed days, seven about the tax of ten per cent and six about items
-//! paid in parts).
+//! about closed days, seven about the tax of ten per cent, six about items paid
+//! in parts and eight about the volume that an 03 takes).
 
 #[derive(Clone, Copy, Debug, PartialEq, Eq)]
 pub enum Rule {
@@ -45,10 +45,26 @@ pub enum Rule {
     WholeBody,
     /// Credit and credited nets pay late parts that add nothing.
     CreditAddsNothing,
+    /// An 03 takes the volume of the period just before, of any kind.
+    AbsenceEmpties,
+    /// An 03 behind two or more 04 periods takes 0.
+    SecondAbsenceEmpties,
+    /// An 04 bills the volume that an 03 would take.
+    AbsenceBilled,
+    /// An 03 behind a resumption takes 0.
+    ResumptionEmpties,
+    /// A stop's period is passed over as an 04 period is.
+    StopNotCounted,
+    /// A reading behind standing estimates is passed over.
+    ReadingNotCounted,
+    /// A period of 0 m³ is passed over.
+    ZeroPassedOver,
+    /// An 03 takes the whole pool of the last real closing.
+    PoolCounted,
 }
 
 impl Rule {
-    pub const BLUNDERS: [(&'static str, Rule); 20] = [
+    pub const BLUNDERS: [(&'static str, Rule); 28] = [
         ("cut-first", Rule::CutFirst),
         ("raw-band", Rule::RawBand),
         ("meter-closes", Rule::MeterCloses),
@@ -69,6 +85,14 @@ impl Rule {
         ("tenth-day-adds", Rule::TenthDayAdds),
         ("whole-body", Rule::WholeBody),
         ("credit-adds-nothing", Rule::CreditAddsNothing),
+        ("absence-empties", Rule::AbsenceEmpties),
+        ("second-absence-empties", Rule::SecondAbsenceEmpties),
+        ("absence-billed", Rule::AbsenceBilled),
+        ("resumption-empties", Rule::ResumptionEmpties),
+        ("stop-not-counted", Rule::StopNotCounted),
+        ("reading-not-counted", Rule::ReadingNotCounted),
+        ("zero-passed-over", Rule::ZeroPassedOver),
+        ("pool-counted", Rule::PoolCounted),
     ];
 
     /// The right rules, unless the feature `wrong-rule` is on.

@@ -5,8 +5,8 @@ use std::process::{Command, Output};
 
 use reference::benchmarks;
 use reference::check::{
-    Checker, Counts, Itself, Other, ACROSS, EDGES, FULL, IN_PARTS, LEAST_IN_PARTS, PART_EDGES,
-    REACHABLE,
+    Checker, Counts, Itself, Other, ACROSS, BEHIND_ABSENCE, EDGES, FULL, IN_PARTS,
+    LEAST_BEHIND_ABSENCE, LEAST_IN_PARTS, PART_EDGES, REACHABLE,
 };
 use reference::closed::{allowed, Closed};
 use reference::fast::Fast;
@@ -82,6 +82,29 @@ fn a_full_run_with_too_few_items_in_parts_fails() {
     ] {
         counts.part_edges[place] = settled;
         assert_eq!(counts.too_few_in_parts(lives), fails, "{settled} of {lives}");
+    }
+}
+
+#[test]
+fn misses_stand_just_behind_absences_often_enough() {
+    let counts = check_lives(&mut Itself, 10, LIVES);
+    let behind = counts.edge(BEHIND_ABSENCE);
+    assert!(behind * FULL >= LEAST_BEHIND_ABSENCE * LIVES, "{behind}");
+}
+
+#[test]
+fn a_full_run_with_too_few_misses_just_behind_absences_fails() {
+    let mut counts = Counts::new();
+    let place = EDGES.iter().position(|edge| edge.0 == BEHIND_ABSENCE).unwrap();
+    for (lives, behind, fails) in [
+        (FULL, 0, true),
+        (FULL, LEAST_BEHIND_ABSENCE - 1, true),
+        (FULL, LEAST_BEHIND_ABSENCE, false),
+        (FULL - 1, 0, false),
+        (2 * FULL, LEAST_BEHIND_ABSENCE - 1, true),
+    ] {
+        counts.edges[place] = behind;
+        assert_eq!(counts.too_few_behind_absence(lives), fails, "{behind} of {lives}");
     }
 }
 

@@ -84,13 +84,6 @@ fn first_miss_bills_nothing() {
 }
 
 #[test]
-fn miss_after_an_absence_bills_nothing() {
-    let mut run = Run::of(&[opening(0, 0, 4), reading(29, 30), absent(59)]);
-    assert_eq!(run.answer.estimated, 0);
-    assert_eq!(run.ok(missed(89)).estimated, 0);
-}
-
-#[test]
 fn resumption_is_no_new_start() {
     let mut run = Run::of(&[opening(0, 0, 4), stop(29, 30), resumption(40, 0, 4)]);
     assert_eq!(run.ok(missed(69)).estimated, 30);
@@ -109,7 +102,7 @@ fn absences_keep_nothing_and_share_nothing() {
     let mut run = Run::of(&calls);
     let answer = run.ok(reading(149, 40));
     assert_eq!(answer.finals, [3, 0, 3, 4]);
-    assert_eq!(answer.net, at_base(30, 4) + 2 * at_base(30, 3) - at_base(30, 30) - at_base(30, 0));
+    assert_eq!(answer.net, at_base(30, 4) + 2 * at_base(30, 3) - 2 * at_base(30, 30));
 }
 
 #[test]

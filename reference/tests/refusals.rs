@@ -271,7 +271,7 @@ fn accounts_that_are_not_whole() {
         |a| a.digits = 3,
         |a| a.dial = 10_000,
         |a| a.pool = 100_000,
-        |a| a.previous = 100_000,
+        |a| a.last_not_absent = 100_000,
         |a| a.estimates = vec![a.estimates[0]; 7],
         |a| a.estimates[0].closing = 60,
         |a| a.estimates[0].days = 0,

@@ -4,8 +4,8 @@ mod common;
 
 use common::*;
 use reference::account::Account;
-use reference::book::Book;
-use reference::calls::{take, Call};
+use reference::book::{Book, Closing};
+use reference::calls::{take, Call, What};
 use reference::rule::Rule;
 
 /// Feeds both; the book must agree after every call.
@@ -180,6 +180,66 @@ fn sums_hold_when_items_are_paid_in_parts() {
     }
 }
 
+/// Absences before, between and behind misses, a stop and a resumption, readings
+/// that revise and one of 0 m³.
+fn with_absences() -> [Call; 19] {
+    [
+        opening(0, 0, 4),
+        absent(29),
+        missed(59),
+        reading(89, 30),
+        absent(119),
+        missed(149),
+        absent(179),
+        absent(209),
+        missed(239),
+        reading(269, 51),
+        absent(299),
+        missed(329),
+        stop(359, 70),
+        resumption(359, 0, 4),
+        absent(389),
+        missed(419),
+        reading(449, 12),
+        absent(479),
+        missed(509),
+    ]
+}
+
+#[test]
+fn sums_hold_with_absences() {
+    let mut pair = Pair::new();
+    for call in with_absences() {
+        pair.agree(&[call]);
+        assert_eq!(pair.book.last_not_absent(), pair.run.account.last_not_absent, "{call:?}");
+    }
+    pair.agree(&[payment(600, 20_000), cancellation(601, 20), payment(700, 1_000_000)]);
+}
+
+#[test]
+fn the_book_tells_what_stands_before_a_period() {
+    let mut pair = Pair::new();
+    let mut told = Vec::new();
+    for call in with_absences() {
+        pair.agree(&[call]);
+        if matches!(call.what, What::Missed { .. }) {
+            let before = pair.book.before_latest();
+            told.push((before.absences, before.nearest));
+        }
+    }
+    assert_eq!(
+        told,
+        [
+            (1, None),
+            (1, Some(Closing::Real)),
+            (2, Some(Closing::Missed)),
+            (1, Some(Closing::Real)),
+            (1, Some(Closing::Stop)),
+            (1, Some(Closing::Real)),
+        ]
+    );
+}
+
 #[test]
 fn the_book_tells_the_parts_of_a_call() {
     let mut pair = Pair::new();
@@ -247,6 +307,25 @@ fn a_blunder_about_parts_breaks_the_yen() {
         [opening(0, 0, 4), reading(29, 30), missed(59), reading(89, 51), payment(100, 5_995)];
     assert!(!yen_agree_by(Rule::CreditAddsNothing, &by_a_net));
     assert!(yen_agree_by(Rule::Right, &by_a_net) && yen_agree_by(Rule::Right, &paid_in_parts()));
+}
+
+#[test]
+fn a_blunder_about_absences_breaks_the_yen() {
+    let calls = with_absences();
+    let breaks = |rule| (1..=calls.len()).any(|count| !yen_agree_by(rule, &calls[..count]));
+    for rule in [
+        Rule::AbsenceEmpties,
+        Rule::SecondAbsenceEmpties,
+        Rule::AbsenceBilled,
+        Rule::ResumptionEmpties,
+        Rule::StopNotCounted,
+        Rule::ReadingNotCounted,
+        Rule::ZeroPassedOver,
+        Rule::PoolCounted,
+    ] {
+        assert!(breaks(rule), "{rule:?}");
+    }
+    assert!(!breaks(Rule::Right));
 }
 
 #[test]

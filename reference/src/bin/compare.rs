@@ -9,7 +9,8 @@ use std::thread;
 use std::time::Instant;
 
 use reference::check::{
-    Checker, Counts, Failure, Itself, Other, ACROSS, FULL, IN_PARTS, LEAST_IN_PARTS, REACHABLE,
+    Checker, Counts, Failure, Itself, Other, ACROSS, BEHIND_ABSENCE, FULL, IN_PARTS,
+    LEAST_BEHIND_ABSENCE, LEAST_IN_PARTS, REACHABLE,
 };
 use reference::closed::Closed;
 use reference::fast::Fast;
@@ -33,12 +34,16 @@ const USAGE: &str = "usage: compare [--lives N] [--seed S] [--jobs J] [--table F
                      unmoved-late, listed-kept, cut-first-at-ten, rate-late,
                      rate-early, first-day-rate, todays-rate, settling-body,
                      due-body, tax-first, pro-rata, cut-each-part,
-                     tenth-day-adds, whole-body or credit-adds-nothing
+                     tenth-day-adds, whole-body, credit-adds-nothing,
+                     absence-empties, second-absence-empties, absence-billed,
+                     resumption-empties, stop-not-counted, reading-not-counted,
+                     zero-passed-over or pool-counted
   the other side: two programs, the linked library, the fast build of the
   reference, or the reference itself
   A run of 100,000 lives or more also fails if fewer than a third of them are
-  across day 7,213 with an estimate standing, or if fewer than 20,000 items are
-  settled in three or more parts.";
+  across day 7,213 with an estimate standing, if fewer than 20,000 items are
+  settled in three or more parts, or if fewer than 50,000 accepted 03 stand just
+  behind an 04.";
 
 #[derive(Clone)]
 enum Side {
@@ -347,7 +352,12 @@ fn compare(options: &Options) -> Result<bool, std::io::Error> {
     if too_few_in_parts {
         println!("fewer than {LEAST_IN_PARTS}: {IN_PARTS}");
     }
-    Ok(seldom.is_empty() && !too_few_cross && !too_few_in_parts)
+    let too_few_behind_absence = total.counts.too_few_behind_absence(total.lives);
+    if too_few_behind_absence {
+        println!("fewer than {LEAST_BEHIND_ABSENCE}: {BEHIND_ABSENCE}");
+    }
+    let too_few = too_few_cross || too_few_in_parts || too_few_behind_absence;
+    Ok(seldom.is_empty() && !too_few)
 }
 
 fn main() -> ExitCode {
