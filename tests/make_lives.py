@@ -341,14 +341,14 @@ def _(a):
     a.open(price_item(29, 5_950), price_item(59, 6_650), price_item(89, 6_650))
 
 
-@life("share_absent", "03, 04, 03, pool 20: 6, 0, 7, 7; the 04 period keeps 0, and the 03 after it billed 0")
+@life("share_absent", "03, 04, 03, pool 20: 6, 0, 7, 7; the 04 period keeps 0, and the 03 after it had billed 30 like the one before")
 def _(a):
-    # 20 / 3 up = 7, 13 / 2 up = 7, 6 left; 2,315 + 2,315 + 2,120 − (950 + 6,650) = −850.
+    # 20 / 3 up = 7, 13 / 2 up = 7, 6 left; 2,315 + 2,315 + 2,120 − (6,650 + 6,650) = −6,550.
     one_miss(a)
     a(absent(89), net=950, unpaid=14_250)
-    a(missed(119), estimated=0, net=950, unpaid=15_200)
-    a(read(149, 150), volumes=[6, 0, 7, 7], net=-850, unpaid=14_350)
-    a.open(price_item(29, 5_800), price_item(59, 6_650), price_item(89, 950), price_item(119, 950))
+    a(missed(119), estimated=30, net=6_650, unpaid=20_900)
+    a(read(149, 150), volumes=[6, 0, 7, 7], net=-6_550, unpaid=14_350)
+    a.open(price_item(29, 100), price_item(59, 6_650), price_item(89, 950), price_item(119, 6_650))
 
 
 @life("share_absent_between", "03, 03, 04, pool 50: 16, 17, 0, 17, net −700")
@@ -421,15 +421,15 @@ def _(a):
     a.open(price_item(29, 950), price_item(59, 950), price_item(89, 4_850))
 
 
-@life("miss_after_absence", "03 bills the volume of the period just before, of any kind: 20, then 0 behind an 04")
+@life("miss_after_absence", "03 bills the volume of the nearest period before it that was no 04: 20, and behind an 04 the 20 of that 03")
 def _(a):
     a(opening(0, 0, 4))
     a(read(29, 20), volumes=[20], net=4_850, unpaid=4_850)
     a(missed(59), estimated=20, net=4_850, unpaid=9_700)
     a(absent(89), net=950, unpaid=10_650)
-    a(missed(119), estimated=0, net=950, unpaid=11_600)
-    a(read(149, 60), volumes=[20, 0, 0, 20], net=4_850, unpaid=16_450)
-    a.open(price_item(29, 4_850), price_item(59, 4_850), price_item(89, 950), price_item(119, 950), price_item(149, 4_850))
+    a(missed(119), estimated=20, net=4_850, unpaid=15_500)
+    a(read(149, 60), volumes=[20, 0, 20, 0], net=950, unpaid=16_450)  # pool 40
+    a.open(price_item(29, 4_850), price_item(59, 4_850), price_item(89, 950), price_item(119, 4_850), price_item(149, 950))
 
 
 @life("miss_after_resumption", "a resumption is no new start: 03 behind it bills the 20 m³ of the stop")
@@ -2292,6 +2292,424 @@ def _(a):
     a(payment(100, 3), unpaid=4)
     a(payment(2_119, 4), interest=2, unpaid=2)
     a.open(interest_item(2_119, 2))
+
+
+# --- Back from a long absence ---------------------------------------------------------
+# 03 bills the volume of the nearest period before it that was no 04, in place of the period just before, of any kind (0 behind an 04).
+# Further prices at k 0 over 25 to 35 days: 5 m³ 950 + 975 = 1,925; 12 m³ 950 + 2,340 = 3,290; 13 m³ 950 + 2,535 = 3,485.
+
+
+def home_again(a):
+    """30 m³, then an 04 and an 03 of 30 m³: 14,250 open, dial 130."""
+    a(opening(0, 100, 4))
+    a(read(29, 130), volumes=[30], net=6_650, unpaid=6_650)
+    a(absent(59), net=950, unpaid=7_600)
+    a(missed(89), estimated=30, net=6_650, unpaid=14_250)
+
+
+@life("absence_home_again", "a reading of 30, 04, 03: 30, 6,650 (by the period just before 0, 950); pool 50 leaves 20 for the next reading")
+def _(a):
+    home_again(a)
+    a(read(119, 180), volumes=[0, 30, 20], net=4_850, unpaid=19_100)
+    a.open(price_item(29, 6_650), price_item(59, 950), price_item(89, 6_650), price_item(119, 4_850))
+
+
+@life("absence_shared", "the same with pool 21: the 03 takes 10, the reading 11, the 04 keeps 0: net −655 (had the 03 billed 0: 0, 0, 21, net 5,030)")
+def _(a):
+    # As share_one_21.
+    home_again(a)
+    a(read(119, 151), volumes=[0, 10, 11], net=-655, unpaid=13_595)
+    a.open(price_item(29, 5_995), price_item(59, 950), price_item(89, 6_650))
+
+
+@life("absence_several", "five 04 in a row, then 03 as the sixth miss: 20, and a seventh is 8; behind a reading of 15: 03, 04, 04, 03, 15 each")
+def _(a):
+    a(opening(0, 0, 4))
+    a(read(29, 20), volumes=[20], net=4_850, unpaid=4_850)
+    for n in range(1, 6):
+        a(absent(29 + 30 * n), net=950, unpaid=4_850 + 950 * n)
+    a(missed(209), estimated=20, net=4_850, unpaid=14_450)
+    a.no(8, missed(239), absent(239))
+    a(read(239, 55), volumes=[0, 0, 0, 0, 0, 20, 15], net=3_875, unpaid=18_325)  # pool 35
+    a(missed(269), estimated=15, net=3_875, unpaid=22_200)
+    a(absent(299), net=950, unpaid=23_150)
+    a(absent(329), net=950, unpaid=24_100)
+    a(missed(359), estimated=15, net=3_875, unpaid=27_975)
+    a(read(389, 95), volumes=[15, 0, 0, 15, 10], net=2_900, unpaid=30_875)  # pool 40
+    a.open(
+        price_item(29, 4_850),
+        *(price_item(29 + 30 * n, 950) for n in range(1, 6)),
+        price_item(209, 4_850),
+        price_item(239, 3_875),
+        price_item(269, 3_875),
+        price_item(299, 950),
+        price_item(329, 950),
+        price_item(359, 3_875),
+        price_item(389, 2_900),
+    )
+
+
+def by_turns(a):
+    """30 m³, then three times an 04 and an 03 of 30 m³: 29,450 open, dial 130."""
+    a(opening(0, 100, 4))
+    a(read(29, 130), volumes=[30], net=6_650, unpaid=6_650)
+    for n in range(3):
+        a(absent(59 + 60 * n), net=950, unpaid=7_600 * (n + 1))
+        a(missed(89 + 60 * n), estimated=30, net=6_650, unpaid=7_600 * (n + 1) + 6_650)
+
+
+@life("absence_by_turns", "04, 03, 04, 03, 04, 03: 30 at each 03, and a seventh miss is 8; pool 100 leaves 10 for the reading")
+def _(a):
+    by_turns(a)
+    a.no(8, missed(239), absent(239))
+    a(read(239, 230), volumes=[0, 30, 0, 30, 0, 30, 10], net=2_900, unpaid=32_350)
+    a.open(
+        price_item(29, 6_650),
+        price_item(59, 950),
+        price_item(89, 6_650),
+        price_item(119, 950),
+        price_item(149, 6_650),
+        price_item(179, 950),
+        price_item(209, 6_650),
+        price_item(239, 2_900),
+    )
+
+
+@life("absence_first", "04 as the first period, then 03 and 03: 0 each; then a reading of 20, 04, 03: 20")
+def _(a):
+    a(opening(0, 0, 4))
+    a(absent(29), net=950, unpaid=950)
+    a(missed(59), estimated=0, net=950, unpaid=1_900)
+    a(missed(89), estimated=0, net=950, unpaid=2_850)
+    a(read(119, 20), volumes=[0, 0, 0, 20], net=4_850, unpaid=7_700)
+    a(absent(149), net=950, unpaid=8_650)
+    a(missed(179), estimated=20, net=4_850, unpaid=13_500)
+    a.open(
+        price_item(29, 950),
+        price_item(59, 950),
+        price_item(89, 950),
+        price_item(119, 4_850),
+        price_item(149, 950),
+        price_item(179, 4_850),
+    )
+
+
+@life("absence_miss_first", "03 as the first period: 0; 04, then 03: 0 again; a cancellation takes the whole pool of 20")
+def _(a):
+    a(opening(0, 0, 4))
+    a(missed(29), estimated=0, net=950, unpaid=950)
+    a(absent(59), net=950, unpaid=1_900)
+    a(missed(89), estimated=0, net=950, unpaid=2_850)
+    a(cancellation(119, 20), volumes=[0, 0, 0, 20], net=4_850, unpaid=7_700)
+    a.open(price_item(29, 950), price_item(59, 950), price_item(89, 950), price_item(119, 4_850))
+
+
+@life("absence_zero", "a reading of 0 m³ counts as any other: 04, 03 behind it bills 0, not the 30 of the reading before")
+def _(a):
+    a(opening(0, 100, 4))
+    a(read(29, 130), volumes=[30], net=6_650, unpaid=6_650)
+    a(read(59, 130), volumes=[0], net=950, unpaid=7_600)
+    a(absent(89), net=950, unpaid=8_550)
+    a(missed(119), estimated=0, net=950, unpaid=9_500)
+    a(read(149, 150), volumes=[0, 0, 20], net=4_850, unpaid=14_350)
+    a.open(price_item(29, 6_650), price_item(59, 950), price_item(89, 950), price_item(119, 950), price_item(149, 4_850))
+
+
+@life("absence_rest_zero", "pool 30, the estimate takes all of it and the reading is 0 m³: 04, 03 behind it bills 0, not 30")
+def _(a):
+    home_again(a)
+    a(read(119, 160), volumes=[0, 30, 0], net=950, unpaid=15_200)
+    a(absent(149), net=950, unpaid=16_150)
+    a(missed(179), estimated=0, net=950, unpaid=17_100)
+    a.open(price_item(29, 6_650), price_item(59, 950), price_item(89, 6_650), *(price_item(day, 950) for day in (119, 149, 179)))
+
+
+@life("absence_stop", "a stop of 10 m³ behind an 04: 03 behind the resumption bills 10, and behind another 04 10 again, not the 30 before the stop")
+def _(a):
+    a(opening(0, 100, 4))
+    a(read(29, 130), volumes=[30], net=6_650, unpaid=6_650)
+    a(absent(59), net=950, unpaid=7_600)
+    a(stop(89, 140), volumes=[0, 10], net=2_900, unpaid=10_500)
+    a(resumption(100, 500, 4), unpaid=10_500)
+    a(missed(129), estimated=10, net=2_900, unpaid=13_400)
+    a(absent(159), net=950, unpaid=14_350)
+    a(missed(189), estimated=10, net=2_900, unpaid=17_250)
+    a(read(219, 540), volumes=[10, 0, 10, 20], net=4_850, unpaid=22_100)  # pool 40
+    a.open(
+        price_item(29, 6_650),
+        price_item(59, 950),
+        price_item(89, 2_900),
+        price_item(129, 2_900),
+        price_item(159, 950),
+        price_item(189, 2_900),
+        price_item(219, 4_850),
+    )
+
+
+@life("absence_resumed", "a stop of 20 m³, resumption, 04, 03: 20; then a stop of 0 m³, resumption, 04, 03: 0")
+def _(a):
+    a(opening(0, 0, 4))
+    a(read(29, 30), volumes=[30], net=6_650, unpaid=6_650)
+    a(stop(59, 50), volumes=[20], net=4_850, unpaid=11_500)
+    a(resumption(70, 500, 5), unpaid=11_500)
+    a(absent(99), net=950, unpaid=12_450)
+    a(missed(129), estimated=20, net=4_850, unpaid=17_300)
+    a(stop(159, 520), volumes=[0, 20, 0], net=950, unpaid=18_250)
+    a(resumption(170, 7, 4), unpaid=18_250)
+    a(absent(199), net=950, unpaid=19_200)
+    a(missed(229), estimated=0, net=950, unpaid=20_150)
+    a.open(
+        price_item(29, 6_650),
+        price_item(59, 4_850),
+        price_item(99, 950),
+        price_item(129, 4_850),
+        price_item(159, 950),
+        price_item(199, 950),
+        price_item(229, 950),
+    )
+
+
+@life("absence_resumed_on_stop_day", "a resumption on the stop day, then 04 and 03 of a day each: the stop's 20 m³, 3,468")
+def _(a):
+    # 1 day, 20 m³: 600 a month, third band; 205,000 / 30 = 6,833; + 340,000 = 346,833 sen. Days 62 to 96 are 35; pool 25.
+    a(opening(0, 100, 4))
+    a(read(29, 130), volumes=[30], net=6_650, unpaid=6_650)
+    a(stop(59, 150), volumes=[20], net=4_850, unpaid=11_500)
+    a(resumption(59, 500, 4), unpaid=11_500)
+    a.no(7, absent(59), missed(59))
+    a(absent(60), net=31, unpaid=11_531)
+    a(missed(61), estimated=20, net=3_468, unpaid=14_999)
+    a(read(96, 525), volumes=[0, 20, 5], net=1_925, unpaid=16_924)
+    a.open(price_item(29, 6_650), price_item(59, 4_850), price_item(60, 31), price_item(61, 3_468), price_item(96, 1_925))
+
+
+@life("absence_stopped_first", "a stop of 0 m³ as the first period, resumption, 04, 03: 0; the reading takes the whole pool of 20")
+def _(a):
+    a(opening(0, 0, 4))
+    a(stop(0, 0), volumes=[0], net=31, unpaid=31)
+    a(resumption(10, 500, 4), unpaid=31)
+    a(absent(39), net=950, unpaid=981)
+    a(missed(69), estimated=0, net=950, unpaid=1_931)
+    a(read(99, 520), volumes=[0, 0, 20], net=4_850, unpaid=6_781)
+    a.open(price_item(0, 31), price_item(39, 950), price_item(69, 950), price_item(99, 4_850))
+
+
+@life("absence_meter", "meter changes behind an 04 and behind an 03, with gas and at rest: each 03 bills the reading's 30; pool 80 leaves 20")
+def _(a):
+    a(opening(0, 100, 4))
+    a(read(29, 130), volumes=[30], net=6_650, unpaid=6_650)
+    a(absent(59), net=950, unpaid=7_600)
+    a(change(70, 140, 99_990, 5), unpaid=7_600)  # 10
+    a(missed(89), estimated=30, net=6_650, unpaid=14_250)
+    a(change(100, 5, 0, 4), unpaid=14_250)  # 15
+    a(absent(119), net=950, unpaid=15_200)
+    a(change(119, 0, 50, 4), unpaid=15_200)  # 0
+    a(missed(149), estimated=30, net=6_650, unpaid=21_850)
+    a(read(179, 105), volumes=[0, 30, 0, 30, 20], net=4_850, unpaid=26_700)  # 55
+    a.open(
+        price_item(29, 6_650),
+        price_item(59, 950),
+        price_item(89, 6_650),
+        price_item(119, 950),
+        price_item(149, 6_650),
+        price_item(179, 4_850),
+    )
+
+
+@life("absence_between", "payments, declined calls and lines that are no frame between 04 and 03: the reading's 30 still")
+def _(a):
+    # Day 29's item is settled a day late, day 59's in time; 50 of credit for day 89's. Pool 50.
+    a(opening(0, 100, 4))
+    a(read(29, 130), volumes=[30], net=6_650, unpaid=6_650)
+    a(absent(59), net=950, unpaid=7_600)
+    a.no(7, read(59, 150), missed(59), absent(59), stop(59, 150), cancellation(59, 150))
+    a(payment(60, 7_600))
+    a.no(1, opening(70, 0, 4), resumption(70, 0, 4), cancel_stopped(70))
+    a.no(2, read(36_095, 150), missed(36_095))
+    a.no(3, read(59, 150), missed(59))
+    a.no(4, change(89, 150, 0, 3))
+    a.no(5, read(89, 10_000), change(89, 150, 10_000, 4))
+    a.no(6, read(89, 150, (5, 5)), missed(89, (5, 5)), absent(89, (5, 5)))
+    a.no(9, read(89, 5_131), change(89, 5_131, 0, 4), stop(89, 5_131), cancellation(89, 5_131))
+    a.no(11, payment(89, 0))
+    a.no(40, "", read(89, 150)[:-2], missed(89)[:-1], "missed")
+    a(payment(89, 50), credit=50)
+    a(missed(89), estimated=30, net=6_650, unpaid=6_600)
+    a(read(119, 180), volumes=[0, 30, 20], net=4_850, unpaid=11_450)
+    a.open(price_item(89, 6_600), price_item(119, 4_850))
+
+
+@life("absence_12", "closings that are 12 between 04 and 03, a reading of 10 m³ among them: the reading's 30 still")
+def _(a):
+    # 70 items of 31, 6,650 and 950. The payment settles the items of days 0 and 1, due on days 30 and 31, 129 and 128 days late:
+    # 29 × 129 × 274 = 1.03, 29 × 128 × 274 = 1.02. Its 2 and the 03 make 72 again.
+    a(opening(0, 0, 4))
+    days_at_zero(a, 0, 69)
+    a(read(99, 30), volumes=[30], net=6_650, unpaid=8_820)
+    a(absent(129), net=950, unpaid=9_770)
+    a.no(12, read(159, 40), missed(159), absent(159), stop(159, 40), cancellation(159, 40))
+    a(payment(159, 62), unpaid=9_708)
+    a(missed(159), estimated=30, net=6_650, interest=2, unpaid=16_360)
+    a.no(12, read(189, 60), missed(189), absent(189))
+    a.open(
+        *(price_item(day, 31) for day in range(2, 70)),
+        price_item(99, 6_650),
+        price_item(129, 950),
+        interest_item(159, 2),
+        price_item(159, 6_650),
+    )
+
+
+@life("absence_13", "closings of 11 m³ that are 13 behind 04 and 03: 30 still behind the next 04; then a net of −6,355 that the limit lets pass")
+def _(a):
+    # The payments settle day 29's item 31 days late, 6,158 × 31 × 274 = 52.3, and day 59's a day late. Pool 21 on day 119: net −655,
+    # as absence_shared, on 999,999,947. On day 179, pool 0: 3 × 950 − 13,300 = −10,450. Pool 21: 7 each, 3 × 2,315 − 13,300 = −6,355.
+    home_again(a)
+    credit_to_the_limit(a, 90, 14_250)
+    a.no(13, read(119, 151), stop(119, 151), cancellation(119, 151))
+    a(absent(119), net=950, interest=52, credit=999_998_997)
+    a(missed(149), estimated=30, net=6_650, credit=999_992_347)
+    a.no(13, read(179, 130))
+    a(read(179, 151), volumes=[0, 7, 0, 7, 7], net=-6_355, credit=999_998_702)
+
+
+@life("absence_revised", "03 billed 30 and revised to 10 by a reading of 11: 04, 03 behind it bills 11; revised to 0 in turn, net −1,195")
+def _(a):
+    # As share_one_21. Then pool 0: 950 + 950 − 3,095 = −1,195.
+    one_miss(a)
+    a(read(89, 151), volumes=[10, 11], net=-655, unpaid=12_645)
+    a(absent(119), net=950, unpaid=13_595)
+    a(missed(149), estimated=11, net=3_095, unpaid=16_690)
+    a(read(179, 151), volumes=[0, 0, 0], net=-1_195, unpaid=15_495)
+    a.open(price_item(29, 4_800), price_item(59, 6_650), price_item(119, 950), price_item(149, 3_095))
+
+
+@life("absence_remainder", "pool 49 shared by three 03, 12 each, and a reading, 13: 04, 03 bills 13; it stands, a reading is 7, and 04, 03 bills 7")
+def _(a):
+    # 49 / 4 up = 13, 36 / 3 = 12; 3,485 + 3 × 3,290 − 3 × 6,650 = −6,595. Then pool 20.
+    by_turns(a)
+    a(read(239, 179), volumes=[0, 12, 0, 12, 0, 12, 13], net=-6_595, unpaid=22_855)
+    a(absent(269), net=950, unpaid=23_805)
+    a(missed(299), estimated=13, net=3_485, unpaid=27_290)
+    a(read(329, 199), volumes=[0, 13, 7], net=2_315, unpaid=29_605)
+    a(absent(359), net=950, unpaid=30_555)
+    a(missed(389), estimated=7, net=2_315, unpaid=32_870)
+    a.open(
+        price_item(29, 55),
+        price_item(59, 950),
+        price_item(89, 6_650),
+        price_item(119, 950),
+        price_item(149, 6_650),
+        price_item(179, 950),
+        price_item(209, 6_650),
+        price_item(269, 950),
+        price_item(299, 3_485),
+        price_item(329, 2_315),
+        price_item(359, 950),
+        price_item(389, 2_315),
+    )
+
+
+@life("absence_own_price", "03 behind an 04, 20 m³ in 24 days and in 36 at fuels of their own: 4,598 and 5,070 (the reading's 4,850); net −2,909")
+def _(a):
+    # 0 m³: 24 days 76,000 and 36 days 114,000 sen.
+    # 24 days at the lower fuel: 25 a month, second band; 100,000 + 17,991 × 20 = 459,820 sen.
+    # 36 days at the higher: 16 a month, first band; 114,000 + 19,650 × 20 = 507,000 sen.
+    # Pool 20: 7 for this period, 2,315; 7 for the latter, 114,000 + 19,650 × 7 = 251,550 sen; 6 for the former, 7 a month,
+    # 76,000 + 19,491 × 6 = 192,946 sen. 2,315 + 2,515 + 1,929 − 4,598 − 5,070 = −2,909.
+    a(opening(0, 0, 4))
+    a(read(29, 20), volumes=[20], net=4_850, unpaid=4_850)
+    a(absent(53, HIGHER), net=760, unpaid=5_610)
+    a(missed(77, LOWER), estimated=20, net=4_598, unpaid=10_208)
+    a(absent(113, DEAR), net=1_140, unpaid=11_348)
+    a(missed(149, HIGHER), estimated=20, net=5_070, unpaid=16_418)
+    a(read(179, 40), volumes=[0, 6, 0, 7, 7], net=-2_909, unpaid=13_509)
+    a.open(price_item(29, 1_941), price_item(53, 760), price_item(77, 4_598), price_item(113, 1_140), price_item(149, 5_070))
+
+
+@life("absence_tax", "04, 03 on both sides of day 7,213, 30 m³ of one reading: 12,457 and 12,565; revised, −2,623 (both by one rate −2,575 or −2,674)")
+def _(a):
+    # Pool 50: 17 for this period, 7,616; 17 for the latter, by 9.02 7,616 (by 8.856 7,556); 16 for the former, by 8.856 7,167
+    # (by 9.02 7,224). 7,616 + 7,616 + 7,167 − 12,457 − 12,565 = −2,623.
+    a(opening(7_123, 0, 4))
+    a(read(7_152, 30, DEAR), volumes=[30], net=12_457, unpaid=12_457)
+    a(absent(7_182, DEAR), net=950, unpaid=13_407)
+    a(missed(7_212, DEAR), estimated=30, net=12_457, unpaid=25_864)
+    a(absent(7_242, DEAR), net=950, unpaid=26_814)
+    a(missed(7_272, DEAR), estimated=30, net=12_565, unpaid=39_379)
+    a(read(7_302, 80, DEAR), volumes=[0, 16, 0, 17, 17], net=-2_623, unpaid=36_756)
+    a.open(
+        price_item(7_152, 9_834),
+        price_item(7_182, 950),
+        price_item(7_212, 12_457),
+        price_item(7_242, 950),
+        price_item(7_272, 12_565),
+    )
+
+
+@life("absence_tax_7213", "03 of day 7,213 behind an 04 of day 7,212: 30 m³ in a day 11,083, revised to 14 m³ 5,208 (by the 04's day 10,976 and 5,158)")
+def _(a):
+    # 1 day, third band: 6,833 + 36,717 × 30 = 1,108,343 sen; by 8.856, 6,833 + 36,359 × 30 = 1,097,603.
+    # Pool 29: 15 for this period, 6,832; 14 for the day, 6,833 + 36,717 × 14 = 520,871 sen; by 8.856, 6,833 + 36,359 × 14 = 515,859.
+    # 6,832 + 5,208 − 11,083 = 957.
+    a(opening(7_153, 0, 4))
+    a(read(7_182, 30, DEAR), volumes=[30], net=12_457, unpaid=12_457)
+    a(absent(7_212, DEAR), net=950, unpaid=13_407)
+    a(missed(7_213, DEAR), estimated=30, net=11_083, unpaid=24_490)
+    a(read(7_243, 59, DEAR), volumes=[0, 14, 15], net=957, unpaid=25_447)
+    a.open(price_item(7_182, 12_457), price_item(7_212, 950), price_item(7_213, 11_083), price_item(7_243, 957))
+
+
+@life("absence_most", "99,999 m³, 04, 03: 99,999 again, 17,001,880; pool 100,000 is 10, and 99,998 is shared: 49,999 each, then 04, 03 bills that")
+def _(a):
+    # 49,999 m³: 2,050 + 8,499,830 = 8,501,880. 2 × 8,501,880 − 17,001,880 = 1,880.
+    a(opening(0, 0, 5))
+    a(change(1, 50_000, 0, 5))
+    a(read(29, 49_999), volumes=[99_999], net=17_001_880, unpaid=17_001_880)
+    a(absent(59), net=950, unpaid=17_002_830)
+    a(missed(89), estimated=99_999, net=17_001_880, unpaid=34_004_710)
+    a(change(90, 99_999, 0, 5), unpaid=34_004_710)  # 50,000
+    a.no(10, read(119, 50_000))
+    a(read(119, 49_998), volumes=[0, 49_999, 49_999], net=1_880, unpaid=34_006_590)
+    a(absent(149), net=950, unpaid=34_007_540)
+    a(missed(179), estimated=49_999, net=8_501_880, unpaid=42_509_420)
+    a.open(
+        price_item(29, 17_001_880),
+        price_item(59, 950),
+        price_item(89, 17_001_880),
+        price_item(119, 1_880),
+        price_item(149, 950),
+        price_item(179, 8_501_880),
+    )
+
+
+@life("absence_interest", "late payments across two absences: 54 posted by an 04, 18 by the 03 of 30 m³ behind it; 7 by a net of −6,355")
+def _(a):
+    # Day 29's item, 21 and 41 days late: (3,000 × 21 + 3,158 × 41) × 274 = 52.7. Day 59's, 11 days late: 880 × 11 × 274 = 2.7.
+    # Day 89's, 11 days late: 6,158 × 11 × 274 = 18.6. Pool 21: 7 each; 3 × 2,315 − 2 × 6,650 = −6,355. It settles the 54, day 119's
+    # 950, 30 days late, 880 × 30 × 274 = 7.2, and the 18; 5,333 are left for day 149's item, due that day.
+    a(opening(0, 100, 4))
+    a(read(29, 130), volumes=[30], net=6_650, unpaid=6_650)
+    a(absent(59), net=950, unpaid=7_600)
+    a(payment(80, 3_000), unpaid=4_600)
+    a(missed(89), estimated=30, net=6_650, unpaid=11_250)
+    a(payment(100, 4_600), unpaid=6_650)
+    a(absent(119), net=950, interest=54, unpaid=7_654)
+    a(payment(130, 6_650), unpaid=1_004)
+    a(missed(149), estimated=30, net=6_650, interest=18, unpaid=7_672)
+    a(read(179, 151), volumes=[0, 7, 0, 7, 7], net=-6_355, unpaid=1_317)
+    a(read(209, 151), volumes=[0], net=950, interest=7, unpaid=2_274)
+    a.open(price_item(149, 1_317), interest_item(209, 7), price_item(209, 950))
+
+
+@life("absence_cancellation", "08 behind 04, 03, 04, pool 21: 0, 10, 0, 11, net −655 (had the 03 billed 0: 0, 0, 0, 21, net 5,030); a further miss is 1")
+def _(a):
+    # As share_one_21.
+    home_again(a)
+    a(absent(119), net=950, unpaid=15_200)
+    a(cancellation(149, 151), volumes=[0, 10, 0, 11], net=-655, unpaid=14_545)
+    a.no(1, missed(179), absent(179))
+    a.open(price_item(29, 5_995), price_item(59, 950), price_item(89, 6_650), price_item(119, 950))
 
 
 # --- Writing ----------------------------------------------------------------------
