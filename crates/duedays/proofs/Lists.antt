@@ -6,7 +6,7 @@ use Rattle.common.proofs.Words.{arith, length, get_or, take, leb, eq-eqb, ne_eqb
 use Rattle.common.proofs.Tests.{and_left, and_right}
 use Rattle.lists.specs.Every.{every}
 use Rattle.common.proofs.Cases.{by_order}
-use mathlib.Core.Bool.{and-false}
+use mathlib.Core.Bool.{and-true, and-false, and_assoc}
 use Rattle.std.specs.List.{IsAllAdjacentAnswer, Sorted.IsPartitionedBy, Sorted.IsPartitionPoint}
 use Rattle.std.proofs.lemmas.List.Sorted.{IsPartitionedBy-ltb, IsNonDecreasingBy-from_default}
 use Rattle.duedays.specs.{Limits.most_listed, Limits.last_due_day, DueDays.listed, DueDays.rising, DueDays.list_allowed, Search.FirstFrom}
@@ -59,6 +59,15 @@ rising_answer holidays false some = one_falls holidays some.0 (omega (arith, som
     one_falls (day ∷ []) k h falls = absurd (omega arith)
     one_falls (day ∷ next ∷ days) zero h falls = rw (sym (falls day)) refl
     one_falls (day ∷ next ∷ days) (suc k) h falls = rw (sym (one_falls (next ∷ days) k (omega arith) falls), and-false (ltb day next)) refl
+
+-- The test over a front of a list, with one day more.
+pub rising_next : (holidays : List ℕ) (i : ℕ) → suc i < length holidays
+    → rising (take (suc (suc i)) holidays) ≡ (rising (take (suc i) holidays) && ltb (get_or holidays i 0) (get_or holidays (suc i) 0))
+rising_next [] i h = absurd (not-suc-le-zero h)
+rising_next (holiday ∷ []) i h = absurd (not-suc-le-zero (le_of_suc-le-suc h))
+rising_next (holiday ∷ next ∷ holidays) zero h = and-true (ltb holiday next)
+rising_next (holiday ∷ next ∷ holidays) (suc i) h =
+    rw (rising_next (next ∷ holidays) i (le_of_suc-le-suc h)) (sym (and_assoc (ltb holiday next) _ _))
 
 -- What the bounds say.
 pub record Allowed (holidays : List ℕ) : Type 0 where

@@ -1,9 +1,9 @@
 -- What holds of every element of a list. Assumes nothing.
-use mathlib.Core.Path.{◌≡◌, refl, ap}
-use mathlib.Core.Bool.{Bool, true, false, ◌&&◌, and-eq-true_iff, and-false}
+use mathlib.Core.Path.{◌≡◌, refl, sym, ap}
+use mathlib.Core.Bool.{Bool, true, false, ◌&&◌, and-eq-true_iff, and-true, and-false, and_assoc}
 use mathlib.Core.List.{List, [], ◌∷◌, ◌++◌, reverse, reverse-cons}
 use Prim.Native.Nat.{ℕ, zero, suc, ◌-◌, ◌<◌}
-use native.Mathlib.Nat.{not-suc-le-zero, le_of_suc-le-suc}
+use native.Mathlib.Nat.{not-suc-le-zero, le_of_suc-le-suc, suc_inj}
 use native.Mathlib.Omega.{arith}
 use lib.ListN.{length, get_or, take, length-take, replicate}
 use lib.Seq.{get_or-take}
@@ -48,6 +48,14 @@ pub every_fails : {A : Type 0} (test : A → Bool) (xs ys : List A) → every te
 every_fails test [] ys e = e
 every_fails test (x ∷ xs) ys e = rw (every_fails test xs ys e) (and-false (test x))
 
+-- The test over a front of a list, with one element more.
+pub every_suc : {A : Type 0} (test : A → Bool) (xs : List A) (i : ℕ) (d : A) → i < length xs
+    → every test (take (suc i) xs) ≡ (every test (take i xs) && test (get_or xs i d))
+every_suc test [] i d h = absurd (not-suc-le-zero h)
+every_suc test (x ∷ xs) zero d h = and-true (test x)
+every_suc test (x ∷ xs) (suc i) d h =
+    rw (every_suc test xs i d (le_of_suc-le-suc h)) (sym (and_assoc (test x) (every test (take i xs)) (test (get_or xs i d))))
+
 -- The test of every element in the library's word.
 pub every_is_all : {A : Type 0} (test : A → Bool) (xs : List A) → every test xs ≡ list_all test xs
 every_is_all test [] = refl
@@ -73,3 +81,11 @@ same_equal agree equal (x ∷ xs) [] e = cc
 same_equal agree equal (x ∷ xs) (y ∷ ys) e =
     let both = (and-eq-true_iff (agree x y) (same agree xs ys)).0 e in
     rw (equal x y both.0, same_equal agree equal xs ys both.1)
+
+-- To agree with a run of one element is a test of each element.
+pub same_replicate : {A : Type 0} (agree : A → A → Bool) (y : A) (xs : List A) (n : ℕ) → length xs ≡ n
+    → same agree xs (replicate n y) ≡ every (λ x. agree x y) (take n xs)
+same_replicate agree y [] zero e = refl
+same_replicate agree y [] (suc n) e = let never : ⊥ = omega arith in absurd never
+same_replicate agree y (x ∷ xs) zero e = let never : ⊥ = omega arith in absurd never
+same_replicate agree y (x ∷ xs) (suc n) e = rw (same_replicate agree y xs n (suc_inj e))

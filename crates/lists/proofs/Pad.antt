@@ -36,6 +36,16 @@ pub map_take_suc : {A B : Type 0} (f : A → B) (xs : List A) (i : ℕ) (d : A) 
     → map f (take (suc i) xs) ≡ map f (take i xs) ++ (f (get_or xs i d) ∷ [])
 map_take_suc f xs i d h = rw (take-suc xs i d h) (map-append f (take i xs) (get_or xs i d ∷ []))
 
+pub length_map_take : {A B : Type 0} (f : A → B) (xs : List A) (i : ℕ) → i ≤ length xs → length (map f (take i xs)) ≡ i
+length_map_take f xs i h = length-map (take i xs) f ∙ length-take-le i xs h
+
+-- An array that is filled from the front with f of each element.
+pub pad_map_next : {A B : Type 0} (f : A → B) (blank : B) (size : ℕ) (xs : List A) (i : ℕ) (d : A) → i < length xs → i < size
+    → set (pad size blank (map f (take i xs))) i (f (get_or xs i d)) ≡ pad size blank (map f (take (suc i) xs))
+pad_map_next f blank size xs i d h within =
+    rw (map_take_suc f xs i d h)
+    (pad_store blank size i (map f (take i xs)) (f (get_or xs i d)) (length_map_take f xs i (le_of_lt h)) within)
+
 -- An array that is filled from the front with the elements.
 pub pad_next : {A : Type 0} (blank : A) (size : ℕ) (xs : List A) (i : ℕ) (d : A) → i < length xs → i < size
     → set (pad size blank (take i xs)) i (get_or xs i d) ≡ pad size blank (take (suc i) xs)

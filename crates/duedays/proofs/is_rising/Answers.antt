@@ -1,9 +1,10 @@
-use Rattle.std.proofs.Common.{ltb, rules}
-use Rattle.std.proofs.lemmas.Fn.{always_returns_same}
-use Rattle.duedays.proofs.Lists.{rising_answer}
+use Rattle.common.proofs.Words.{◌≡◌, suc, ◌-◌, arith, add-one}
+use Rattle.duedays.proofs.Lists.{rising_next}
 use Rattle.duedays.proofs.is_rising.Goals as goal
 
-pub returns : goal.returns
-returns c =
-    rising_answer c.args.holidays.now c.is_sorted_by.result
-    (c.is_sorted_by.ensures.cases ltb (always_returns_same _ _ _ (λ a r f k. search rules)))
+pub loop-i-preserved : goal.loop-i-preserved
+loop-i-preserved c =
+    let i = c.loop-i.i in
+    let is : suc (i - 1) ≡ i = omega arith in
+    let next = rw is at (rising_next c.args.holidays.now (i - 1) (omega arith)) in
+    rw (add-one i, next) (cc)
