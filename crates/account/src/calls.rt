@@ -26,6 +26,7 @@ use tariff::BillingPeriod;
 
 impl WholeAccount {
     // Any call.
+    #[tactic(auto, using(crate::proofs::Concluding::outcome_ok, crate::proofs::Concluding::outcome_err))]
     pub fn answer(&self, holidays: Holidays<'_>, call: Call) -> Outcome
         ensures { result ≡ outcome holidays.entry.days.now self.now.account call }
     {
@@ -175,7 +176,7 @@ pub fn changed(plan: Plan, estimates: &Estimates) -> Estimates
 }
 
 // No estimate stands: every place is blank.
-fn no_estimates() -> Estimates
+pub fn no_estimates() -> Estimates
     ensures { result ≡ stored_estimates [] }
 {
     Estimates::default()

@@ -1,7 +1,7 @@
 // The open items of a ledger while entries are worked: specs/OpenItems.
 #![tactic(auto)]
 
-ghost use Rattle.std.specs.Prelude.{◌≡◌, ◌++◌, ℕ, ◌+◌, ◌-◌, ◌≤◌, ◌<◌, length, IfOk};
+ghost use Rattle.std.specs.Prelude.{◌≡◌, ◌++◌, ℕ, ◌+◌, ◌-◌, ◌≤◌, ◌<◌, length, take, IfOk};
 ghost use Rattle.common.specs.Refusals.{told};
 ghost use Rattle.duedays.specs.Limits.{last_call_day};
 ghost use Rattle.duedays.specs.DueDays.{due_day};
@@ -17,7 +17,7 @@ use common::Refusal;
 use duedays::Holidays;
 use ledger::limits::{CAPACITY, LANE_PLACES, MOST_END};
 use ledger::numbers::{Posted, Settled, settle_numbers};
-use ledger::{Coverage, Entry, Item, Kind, Ledger, Queue};
+use ledger::{BLANK, Coverage, Entry, Item, Kind, Ledger, Queue};
 use std::marker::Model;
 
 // The open items lie one after another among more places than a ledger has, and their queue says where. To settle items moves its front and no item.
@@ -46,8 +46,8 @@ impl OpenItems {
         requires { OpenBounds ledger.now }
         ensures { result ≡ standing ledger.now }
     {
-        let mut places = [Item::default(); LANE_PLACES];
-        places[..CAPACITY].copy_from_slice(&ledger.items);
+        let mut places = [BLANK; LANE_PLACES];
+        spread(&ledger.items, &mut places);
         OpenItems {
             places,
             queue: ledger.queue(),
@@ -97,12 +97,20 @@ impl OpenItems {
     }
 }
 
+// The items of a ledger, put at the front of the places.
+pub fn spread(items: &[Item; CAPACITY], places: &mut [Item; LANE_PLACES])
+    ensures front { take capacity places.new ≡ items.now }
+    ensures long { length places.new ≡ lane_places }
+{
+    places[..CAPACITY].copy_from_slice(items);
+}
+
 // Items as a ledger holds them.
-fn gathered(items: &[Item]) -> [Item; CAPACITY]
+pub fn gathered(items: &[Item]) -> [Item; CAPACITY]
     requires { length items.now ≤ capacity }
     ensures { result ≡ pad capacity blank items.now }
 {
-    let mut places = [Item::default(); CAPACITY];
+    let mut places = [BLANK; CAPACITY];
     places[..items.len()].copy_from_slice(items);
     places
 }

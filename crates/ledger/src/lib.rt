@@ -70,13 +70,24 @@ pub struct Queue {
     pub credit: u64,
 }
 
+// What lies in a place that holds no item.
+pub const BLANK: Item = Item {
+    amount: 0,
+    unpaid: 0,
+    share: 0,
+    gathered: 0,
+    obligation: 0,
+    due: 0,
+    kind: Kind::Interest,
+};
+
 impl Ledger {
     pub fn new() -> Ledger
         ensures { result ≡ stored (record { open_items = []; credit = 0; held = 0 }) }
     {
         Ledger {
             count: 0,
-            items: [Item::default(); CAPACITY],
+            items: [BLANK; CAPACITY],
             held: 0,
             credit: 0,
         }

@@ -326,7 +326,7 @@ fn status_after(then: Then, day: u16) -> Status
 }
 
 // A plan that asks nothing of the ledger.
-fn quiet(head: Head) -> Plan
+pub fn quiet(head: Head) -> Plan
     ensures { result ≡ quiet_plan head }
 {
     Plan {
