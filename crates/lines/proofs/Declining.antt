@@ -1,19 +1,18 @@
 -- A piece by a list that breaks its bounds, under way: every line is answered 14. Assumes nothing.
 use Rattle.std.specs.Prelude.{Option}
 use Rattle.intake.specs.declared.Call.{Call}
-use Rattle.common.proofs.Words.{◌≡◌, refl, sym, ap, ◌∙◌, false, List, ℕ, ◌+◌, ◌-◌, ◌≤◌, ◌<◌, arith, length}
+use Rattle.common.proofs.Words.{◌≡◌, refl, sym, inl, inr, ap, ◌∙◌, false, List, ℕ, ◌+◌, ◌-◌, ◌≤◌, ◌<◌, arith, length, take, eqb, eqb-true, eqb-false}
+use Rattle.common.proofs.Cases.{by_test}
 use Rattle.duedays.specs.DueDays.{list_allowed}
 use Rattle.account.specs.{declared.Account.Account, declared.Outcome.Outcome, Outcomes.declined, Outcomes.declining}
-use Rattle.frames.specs.Digits.{written}
+use Rattle.frames.specs.{Digits.written, Frames.parsed}
 use Rattle.answers.specs.Answers.{answer_line, longest_answer}
-use Rattle.lines.specs.Begun.{Begun}
+use Rattle.lines.specs.Begun.{Begun, none_begun}
 use Rattle.lines.specs.Feeding.{nothing, between, feeding}
 use Rattle.lines.specs.{declared.State.State, Line.parsed_outcome, Going.state, Going.fed_from}
-use Rattle.lines.specs.Going.{read_as, Ends, Finds, Declines}
-use Rattle.lines.specs.declared.Found.{Found}
-use Rattle.lines.specs.declared.Next.TheVariants.{Waits}
+use Rattle.lines.specs.Going.{Keeps, Declines}
 use Rattle.lines.proofs.Feeding.{Ahead, ahead_leads, ahead_done, ahead_text}
-use Rattle.lines.proofs.Going.{input_ended, ahead_turn, by_read}
+use Rattle.lines.proofs.Going.{input_ended, ahead_turn, found_waits, kept_ends}
 
 -- By every such list, what the whole piece makes of a state is what was written, with what the rest makes of the account, which stays.
 pub record Declining (input text : List ℕ) (s : State) (taken place : ℕ) (line : Begun) (out : List ℕ) : Type 0 where
@@ -51,41 +50,38 @@ module _ {input text : List ℕ} {s : State} {taken place : ℕ} {line : Begun} 
       let stops = input_ended holidays input taken (length text - place) (state s.account line) none in
       declines (ahead_leads (d.ahead holidays unlisted) stops) d.within d.placed
 
-  -- The next line was looked for.
-  module _ {kept : Begun} {n : Found} (looked : Finds input taken (length out - place) line kept n) where
-    found : Finds input taken (length text - place) line kept n
-    found = rw d.out_long at looked
+  -- A line's characters were kept.
+  module _ {kept : Begun} {end : ℕ} (k : Keeps input taken line kept end) where
+    abbrev room : ℕ
+    room = length text - place
 
-    -- It has not ended.
-    pub declining_waits : n.next ≡ Waits → (holidays : List ℕ) → list_allowed holidays ≡ false
-        → Declines holidays input text s out (record { state = state s.account kept; taken = n.taken; written = place })
-    declining_waits waits holidays unlisted =
-        declines (ahead_leads (d.ahead holidays unlisted) (found.waits (ap read_as waits) holidays s.account)) found.within d.placed
+    -- The input ended, or the room did.
+    pub declining_waits : (end < length input → length out - place < longest_answer)
+        → (holidays : List ℕ) → list_allowed holidays ≡ false
+        → Declines holidays input text s out (record { state = state s.account kept; taken = end; written = place })
+    declining_waits stops holidays unlisted =
+        let found = found_waits k room (by_test (eqb end (length input)) (λ e. inl (eqb-true end (length input) e))
+        (λ e.
+        let not_all = eqb-false end (length input) e in
+        inr (not_all, rw d.out_long at (stops (omega (arith, k.within, not_all)))))) in
+        declines (ahead_leads (d.ahead holidays unlisted) (found.waits refl holidays s.account)) found.within d.placed
 
-    -- It ended: there is room for its answer, and bytes were taken.
-    module _ (ends : n.next ≡ Waits → ⊥) where
-      pub declining_room : longest_answer ≤ length out - place
-      declining_room = by_read n.next ends (λ read is. (looked.ended read is).room_left)
-
-      pub declining_more : taken < n.taken
-      declining_more = by_read n.next ends (λ read is. (looked.ended read is).onward)
-
-    -- It was answered.
-    pub declining_on : (n.next ≡ Waits → ⊥) → {out' : List ℕ} → length out' ≡ length out → out' ≡ written out place (answer_line (declining 14))
+    -- The line ended, and was answered.
+    pub declining_on : end < length input → longest_answer ≤ length out - place
+        → {out' : List ℕ} → length out' ≡ length out → out' ≡ written out place (answer_line (declining 14))
         → {place' : ℕ} → place' ≡ place + length (answer_line (declining 14)) → place' ≤ place + longest_answer
-        → Declining input text s n.taken place' kept out'
-    declining_on ends {out'} long out_is {place'} place_is few = by_read n.next ends (λ read is. behind read (found.ended read is))
-      where
-        behind : (read : Option Call) → Ends input taken (length text - place) line kept n read → Declining input text s n.taken place' kept out'
-        behind read ended =
-            record {
-              within = found.within;
-              out_long = long ∙ d.out_long;
-              placed = omega (arith, few, ended.room_left, d.placed);
-              ahead = λ holidays unlisted.
-                  let is = declined_line holidays unlisted s.account read in
-                  ahead_turn holidays input (length text) (state s.account line) (parsed_outcome holidays s.account read)
-                  (d.ahead holidays unlisted) (ended.leads holidays s.account)
-                  (sym (ap (λ (o : Outcome). o.answer) is)) out_is place_is
-                  (ap (state s.account) ended.none_begun ∙ ap (λ (o : Outcome). between o.account) (sym is));
-            }
+        → {line' : Begun} → line' ≡ none_begun → Declining input text s (end + 1) place' line' out'
+    declining_on more wide long out_is place_is few none =
+        let left : longest_answer ≤ room = rw d.out_long at wide in
+        let read = parsed (take kept.length kept.characters) in
+        record {
+          within = omega arith;
+          out_long = long ∙ d.out_long;
+          placed = omega (arith, few, left, d.placed);
+          ahead = λ holidays unlisted.
+              let is = declined_line holidays unlisted s.account read in
+              ahead_turn holidays input (length text) (state s.account line) (parsed_outcome holidays s.account read)
+              (d.ahead holidays unlisted) (kept_ends k room more left holidays s.account refl)
+              (sym (ap (λ (o : Outcome). o.answer) is)) out_is place_is
+              (ap (state s.account) none ∙ ap (λ (o : Outcome). between o.account) (sym is));
+        }

@@ -29,6 +29,10 @@ pub kept_within : (b : Begun) (c : ℕ) → b.length < kept_most
     → keeping b c ≡ record { length = b.length + 1; characters = set b.characters b.length c }
 kept_within b c h = rw (lt-ltb b.length kept_most h, add-one b.length) refl
 
+-- Where as many are kept as can be, it passes by.
+pub kept_full : (b : Begun) (c : ℕ) → kept_most ≤ b.length → keeping b c ≡ b
+kept_full b c h = rw (le-ltb b.length kept_most h) refl
+
 -- A feeding under way: the whole is what is done, with what the rest makes behind it.
 pub record Ahead (whole : Feeding) (text : List ℕ) (taken place : ℕ) (rest : Feeding) (out : List ℕ) : Type 0 where
   pub same_state : whole.state ≡ rest.state

@@ -14,6 +14,9 @@ pub record Begun : Type 0 where
   pub length : ℕ
   pub characters : List ℕ
 
+abbrev pub begun_with : ℕ → List ℕ → Begun
+begun_with length characters = record { length = length; characters = characters }
+
 -- No line has begun.
 abbrev pub none_begun : Begun
 none_begun = record { length = 0; characters = blank_line }

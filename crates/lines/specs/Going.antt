@@ -1,6 +1,6 @@
 -- A feeding under way, line by line.
-use mathlib.Core.{Path.◌≡◌, List.List, List.◌++◌}
-use Rattle.std.specs.Prelude.{Option, Some, None, ℕ, ◌+◌, ◌-◌, ◌≤◌, ◌<◌, length, get_or, drop}
+use mathlib.Core.{Path.◌≡◌, Logic.◌≢◌, List.List, List.◌++◌}
+use Rattle.std.specs.Prelude.{All, Option, Some, None, ℕ, ◌+◌, ◌-◌, ◌≤◌, ◌<◌, length, get_or, drop}
 use Rattle.account.specs.{declared.Account.Account, declared.Outcome.Outcome}
 use Rattle.intake.specs.declared.Call.{Call}
 use Rattle.frames.specs.Numbers.{call_of}
@@ -32,6 +32,10 @@ fed_from holidays input from room s = feeding holidays room s (drop from input)
 abbrev pub fed_behind : List ℕ → List ℕ → ℕ → ℕ → Outcome → Feeding
 fed_behind holidays input taken room o =
     writing (answer_line o.answer) (fed_from holidays input taken (room - length (answer_line o.answer)) (between o.account))
+
+-- No character ends a line.
+abbrev pub NoEnd : List ℕ → Type 0
+NoEnd = All (λ c. c ≢ line_feed)
 
 -- Where a line's characters end.
 pub record Keeps (input : List ℕ) (from : ℕ) (line kept : Begun) (taken : ℕ) : Type 0 where
