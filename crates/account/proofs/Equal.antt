@@ -57,8 +57,9 @@ equal_new a status e =
     }
 
 -- An account of status new is whole exactly where it equals the new one.
-pub new_compared : (a : Account) → a.status ≡ New → account.ghosts.eq a new_account ≡ whole a
-new_compared a status =
-    one_truth (account.ghosts.eq a new_account) (whole a)
+pub new_compared : (a other : Account) → other ≡ new_account → a.status ≡ New → account.ghosts.eq a other ≡ whole a
+new_compared a other made status =
+    rw made
+    (one_truth (account.ghosts.eq a new_account) (whole a)
     (λ e. subst (λ x. whole x ≡ true) (sym (equal_new a status e)) new_whole)
-    (λ w. subst (λ x. account.ghosts.eq x new_account ≡ true) (sym (whole_new a status w)) refl)
+    (λ w. subst (λ x. account.ghosts.eq x new_account ≡ true) (sym (whole_new a status w)) refl))

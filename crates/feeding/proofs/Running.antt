@@ -175,11 +175,11 @@ module _ (before : Desk) {holidays input text : List ℕ} {d : Desk} {out : List
 
       -- Refused.
       pub running_refused : (refusal : Refusal) {r : Result Worked Refusal} {after : Desk} {volumes : List ℕ}
-          → Turned holidays d n.next line r after volumes → r ≡ Err refusal → answer ≡ declining (number_of refusal)
-          → Goes_on d.head after.estimates after.items
-      running_refused refusal t done answered =
+          → Turned holidays d n.next line r after volumes → r ≡ Err refusal → {h : Head} → h ≡ d.head
+          → answer ≡ declining (number_of refusal) → Goes_on h after.estimates after.items
+      running_refused refusal t done head_is answered =
           let come = rw done at t.comes in
           let outcome_is = come.0 in
-          rw (t.estimates_same, come.1)
+          rw (head_is, t.estimates_same, come.1)
           (running_on t.read t.is d.head d.estimates d.items (sym (ap (λ (x : Outcome). x.account) outcome_is))
           g.feedable.count_is (answered ∙ sym (ap (λ (x : Outcome). x.answer) outcome_is)))

@@ -174,8 +174,8 @@ module _ {bytes : List ℕ} {kind : FrameKind} {first second third short : ℕ} 
   line_digits b = rw (size_is b) at (front_digits b)
 
   -- No frame begins them where no LF stands behind that size,
-  pub no_end : (get_or bytes end 0 ≡ line_feed → ⊥) → FrameAt bytes None
-  no_end n call width b = n (rw (size_is b) at b.ends)
+  pub no_end : {last : ℕ} → (last ≡ line_feed → ⊥) → last ≡ get_or bytes end 0 → FrameAt bytes None
+  no_end n last_is call width b = n (last_is ∙ rw (size_is b) at b.ends)
 
   -- or where a part of it is no number.
   pub no_part : (from to : ℕ) → from ≤ to → to ≤ end → None ≡ number_in (between from to bytes) → FrameAt bytes None
@@ -202,11 +202,11 @@ module _ {bytes : List ℕ} {kind : FrameKind} {first second third short : ℕ} 
         let same : to - from ≡ m = omega arith in
         rw (part_of from m end bytes (omega arith)) (rw same at (cond_some _ _ _ (sym r.is)).1)
 
-  pub numbers_begin : {day a b c d : ℕ} → get_or bytes end 0 ≡ line_feed → Some day ≡ number_in (between 2 6 bytes)
+  pub numbers_begin : {last day a b c d : ℕ} → last ≡ line_feed → last ≡ get_or bytes end 0 → Some day ≡ number_in (between 2 6 bytes)
       → Some a ≡ number_in (between 6 (second_at w) bytes) → Some b ≡ number_in (between (second_at w) (third_at w) bytes)
       → Some c ≡ number_in (between (third_at w) (short_at w) bytes) → Some d ≡ number_in (between (short_at w) end bytes)
       → Begins bytes (call_by kind day a b c d) end
-  numbers_begin {day} {a} {b} {c} {d} ends day_is a_is b_is c_is d_is =
+  numbers_begin {last} {day} {a} {b} {c} {d} ends last_is day_is a_is b_is c_is d_is =
       let day_read : Reads 2 6 day = record { is = day_is } in
       let first_read : Reads 6 (second_at w) a = record { is = a_is } in
       let second_read : Reads (second_at w) (third_at w) b = record { is = b_is } in
@@ -230,7 +230,7 @@ module _ {bytes : List ℕ} {kind : FrameKind} {first second third short : ℕ} 
       record {
         room = k.room;
         within = row.end_most;
-        ends = ends;
+        ends = sym last_is ∙ ends;
         frame =
             parsed_digits line all ∙ frame_at line end (number_of_kind kind) line_long kind_is ∙ row.told end line ∙
             ap (λ t. cond t (Some (called_in kind w line)) None) (eq-eqb end end refl) ∙

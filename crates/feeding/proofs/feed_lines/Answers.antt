@@ -1,5 +1,5 @@
 -- What is worked of a line comes to the line's outcome (`Turned`); so, its answer written, the run goes on.
-use Rattle.common.proofs.Words.{arith, refl, sym, ap, ◌∙◌}
+use Rattle.common.proofs.Words.{arith, refl, sym, ap, ◌∙◌, rules}
 use Rattle.lines.specs.Going.{read_as}
 use Rattle.feeding.proofs.Running.{Turned, none_turned, call_turned, desk_of, running_ended, running_waits}
 use Rattle.feeding.proofs.Running.{running_changed, running_kept, running_refused}
@@ -50,7 +50,7 @@ loop-taken-preserved c =
     let put = rw c.number.ensures at c.put_refusal-written.ensures in
     rw t.line_is
     (running_refused c.args.desk.now c.loop-taken.invariant c.next_line-found.ensures _ _ put.out_after _ put.value put.upper_bound
-    c.in-Err.refusal t c.in-Err.is refl)
+    c.in-Err.refusal t c.in-Err.is (search rules) refl)
 
 pub returns : goal.returns
 returns c = elim c.loop-taken-test.branch [

@@ -1,11 +1,11 @@
 -- A frame that begins with these two characters has this size, LF behind it, and digits in each part (`no_end`, `no_part`); and where
 -- they are, it is the frame of their numbers (`numbers_begin`).
-use Rattle.common.proofs.Words.{◌+◌, arith}
+use Rattle.common.proofs.Words.{◌+◌, arith, rules}
 use Rattle.frames.proofs.Numbers.{no_end, no_part, numbers_begin}
 use Rattle.frames.proofs.fields_of.Goals as goal
 
 pub returns-then-last-ne10 : goal.returns-then-last-ne10
-returns-then-last-ne10 g c = no_end c.requires c.if-last-ne10.true
+returns-then-last-ne10 g c = no_end c.requires c.if-last-ne10.true (search rules)
 
 pub returns-in_err-number : goal.returns-in_err-number
 returns-in_err-number g c =
@@ -34,5 +34,5 @@ returns-in_err-number-5 g c =
 
 pub returns : goal.returns
 returns g c =
-    numbers_begin c.requires c.if-last-ne10.false c.in_ok-number.ensures.value c.in_ok-number-2.ensures.value
+    numbers_begin c.requires c.if-last-ne10.false (search rules) c.in_ok-number.ensures.value c.in_ok-number-2.ensures.value
     c.in_ok-number-3.ensures.value c.in_ok-number-4.ensures.value c.in_ok-number-5.ensures.value

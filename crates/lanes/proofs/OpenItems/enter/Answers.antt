@@ -45,7 +45,7 @@ pub returns-in_err-settled-clause-stands : goal.returns-in_err-settled-clause-st
 returns-in_err-settled-clause-stands c =
     let refused = c.in_err-settled.ensures.number ∙ refusal (goal.at.returns-in_err-settled-clause-stands c).After-cover-cover in
     let some = number_some c.in_err-settled.field-0.0 in
-    sym (next_same c.args.holidays.days.now c.args.entry c.args.self.now (λ z. omega arith))
+    (search rules) ∙ sym (next_same c.args.holidays.days.now c.args.entry c.args.self.now (λ z. omega arith))
 
 pub store-requires-clause-storable : goal.store-requires-clause-storable
 store-requires-clause-storable c =
