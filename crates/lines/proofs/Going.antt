@@ -198,7 +198,8 @@ found_end {input} {from} {line₀} {end} begins within ends none =
     let bytes_are = between_to_end input from (length input) (omega arith) in
     let more = rw bytes_are at within in
     let inside : from + end < length input = omega (arith, more, length-drop from input) in
-    let k = kept_to {input = input} {from = from} {line₀ = line₀} end (omega arith) (no_end_before (drop from input) end (omega arith) (rw bytes_are at none)) in (
+    let before = no_end_before (drop from input) end (omega arith) (rw bytes_are at none) in
+    let k = kept_to {input = input} {from = from} {line₀ = line₀} end (omega arith) before in (
       k.line,
       record {
         onward = omega arith;
@@ -207,19 +208,6 @@ found_end {input} {from} {line₀} {end} begins within ends none =
         leads = k.keeping.leads;
       },
     )
-
--- Where none was found it does not end.
-pub found_none : {input : List ℕ} {from taken : ℕ} {line kept : Begun} → Keeps input from line kept taken
-    → NoEnd (part from (length input) input) → length input ≤ taken
-found_none {input} {from} {taken} k none =
-    by_test (leb (length input) taken) (leb-true (length input) taken)
-    (λ e.
-    let more = leb-false (length input) taken e in
-    let i = taken - from in
-    let at_end : from + i ≡ taken = omega (arith, k.onward) in
-    let character = rest_at input from i in
-    absurd (All-get_or (λ c. c ≢ line_feed) (part from (length input) input) i 0 (omega (arith, rest_long input from, k.onward, more)) none
-    (character ∙ rw at_end (k.ends more))))
 
 -- A frame has at most as many characters as the longest.
 frame_short : (line : List ℕ) {call : Call} → parsed line ≡ Some call → length line ≤ longest_frame

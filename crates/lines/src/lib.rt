@@ -229,19 +229,20 @@ pub fn decline_lines(state: State, input: &[u8], out: &mut [u8]) -> Fed
     let mut line = state.line;
     let mut taken: usize = 0;
     let mut written: usize = 0;
-    while out.len() - written >= LONGEST_ANSWER {
-        let Some(end) = line_end(&input[taken..]) else {
-            break;
-        };
+    loop {
+        let rest = &input[taken..];
+        let size = line_length(rest);
+        if size == rest.len() || out.len() - written < LONGEST_ANSWER {
+            keep_front(input, taken, size, &mut line);
+            return Fed {
+                state: State { account, line },
+                taken: taken + size,
+                written,
+            };
+        }
         written += answers::put_refusal(Refusal::ClosedDays.number(), &mut out[written..]);
         line = KeptLine::new();
-        taken += end + 1;
-    }
-    taken = keep_characters(input, taken, &mut line);
-    Fed {
-        state: State { account, line },
-        taken,
-        written,
+        taken += size + 1;
     }
 }
 
@@ -256,6 +257,8 @@ fn keep_characters(input: &[u8], from: usize, line: &mut KeptLine) -> usize
 }
 
 // Keeps the first characters of a line that is so long.
+#[cold]
+#[inline(never)]
 fn keep_front(input: &[u8], from: usize, size: usize, line: &mut KeptLine)
     requires from_in_bounds { from ≤ length input.now }
     requires within { size ≤ length (between from (length input.now) input.now) }
