@@ -1,4 +1,5 @@
-use Rattle.std.proofs.Common.{◌≡◌, ◌≤◌, arith, length, take, ◌∙◌}
+-- The items lie in front of the places, of which there are as many as before.
+use Rattle.std.proofs.Common.{◌≡◌, ◌≤◌, arith, length, ◌∙◌}
 use lib.Seq.{length-take-le}
 use Rattle.ledger.specs.Limits.{capacity}
 use Rattle.lanes.proofs.Places.{in_front, put_in_front}
